@@ -7,12 +7,10 @@ use borrow.Author.Needs.{needs}
 use Rattle.packet.proofs.header.read.Statement.{statement}
 use Rattle.packet.proofs.header.read.Tie as tie
 
--- src/header.rt:22:9
 returns : tie.Need-returns
 unfolding headerOf
 returns c = simp (lt-leb _ _ (c .if1 .taken))
 
--- src/header.rt:18:1
 returns-2 : tie.Need-returns-2
 unfolding headerOf
 returns-2 c = rw (le-leb 6 (length (c .before .before .before .before .before .before .before .before .before .before .before .before .before .before .before .args .packet .now)) (omega arith)) cc
