@@ -1,0 +1,2 @@
+// The configuration image: loading it into a state, or the refusal and the place of its first bad record.
+pub mod types;

@@ -1,0 +1,6 @@
+pub mod Tables
+pub mod Rules
+pub mod Keeps
+pub mod Test
+pub mod Lookup
+pub mod LookupLaws

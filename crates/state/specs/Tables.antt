@@ -1,0 +1,115 @@
+-- The tables of a configuration as rows, which is what the paper's rules speak of, and how a `Config` holds them in arrays.
+use mathlib.Core.Bool.{false}
+use mathlib.Core.List.{List, [], _∷_, _++_, map}
+use Prim.Native.Nat.{ℕ, zero, suc, _-_, _*_}
+use lib.ListN.{length, getD, take, drop, replicate}
+use Rattle.state.specs.declared.types.Config.{Config}
+use Rattle.state.specs.declared.types.Run.{Run}
+
+-- ---- rows
+
+pub record Route : Type 0 where
+  pub id : ℕ
+  pub dest : ℕ
+
+-- a row's start state belongs to the image and to the first `Run`, not to the configuration
+pub record FaultRow : Type 0 where
+  pub id : ℕ
+  pub response : ℕ
+  pub latching : ℕ
+  pub args : List ℕ
+
+pub record Tables : Type 0 where
+  pub ground : ℕ
+  pub fault : ℕ
+  pub base : ℕ
+  pub routes : List Route
+  pub protected : List ℕ
+  pub rows : List FaultRow
+
+abbrev pub routeId : Route → ℕ
+routeId r = r .id
+
+abbrev pub faultId : FaultRow → ℕ
+faultId r = r .id
+
+-- the command ids that are routed
+abbrev pub routed : Tables → List ℕ
+routed t = map routeId (t .routes)
+
+abbrev pub empty : Tables
+empty = record { ground = 0; fault = 0; base = 0; routes = []; protected = []; rows = [] }
+
+-- ---- read off the arrays
+
+module _ {A : Type 0} where
+  -- what f gives for n places from k on
+  abbrev pub listed : (ℕ → A) → ℕ → ℕ → List A
+  listed f k zero = []
+  listed f k (suc n) = f k ∷ listed f (suc k) n
+
+abbrev pub routeAt : List ℕ → List ℕ → ℕ → Route
+routeAt ids dests k = record { id = getD ids k 0; dest = getD dests k 0 }
+
+-- the argument bytes of row k stand from place 16 k on
+abbrev pub rowAt : List ℕ → List ℕ → List ℕ → List ℕ → List ℕ → ℕ → FaultRow
+rowAt ids responses latching counts args k =
+    record {
+      id = getD ids k 0;
+      response = getD responses k 0;
+      latching = getD latching k 0;
+      args = take (getD counts k 0) (drop (k * 16) args);
+    }
+
+abbrev pub tablesOf : Config → Tables
+tablesOf c =
+    record {
+      ground = c .ground;
+      fault = c .fault;
+      base = c .base;
+      routes = listed (routeAt (c .routeids) (c .dests)) 0 (c .nroutes);
+      protected = take (c .nprotected) (c .protected);
+      rows = listed (rowAt (c .faultids) (c .responses) (c .latching) (c .argcounts) (c .args)) 0 (c .nrows);
+    }
+
+-- ---- written into arrays
+
+-- a list in an array of n places: zeros behind it
+abbrev pub padded : ℕ → List ℕ → List ℕ
+padded n xs = xs ++ replicate (n - length xs) 0
+
+-- argument bytes, 16 places a row
+abbrev pub flat : List (List ℕ) → List ℕ
+flat [] = []
+flat (xs ∷ rows) = padded 16 xs ++ flat rows
+
+abbrev pub argsOf : FaultRow → List ℕ
+argsOf r = r .args
+
+abbrev pub configOf : Tables → Config
+configOf t =
+    record {
+      ground = t .ground;
+      fault = t .fault;
+      base = t .base;
+      nroutes = length (t .routes);
+      routeids = padded 128 (map routeId (t .routes));
+      dests = padded 128 (map (λ r. r .dest) (t .routes));
+      nprotected = length (t .protected);
+      protected = padded 32 (t .protected);
+      nrows = length (t .rows);
+      faultids = padded 32 (map faultId (t .rows));
+      responses = padded 32 (map (λ r. r .response) (t .rows));
+      latching = padded 32 (map (λ r. r .latching) (t .rows));
+      argcounts = padded 32 (map (λ r. length (r .args)) (t .rows));
+      args = padded 512 (flat (map argsOf (t .rows)));
+    }
+
+-- unarmed, zero counters, and these fault states
+abbrev pub freshRun : List ℕ → Run
+freshRun states =
+    record {
+      arm = record { armed = false; ticks = 0 };
+      counts = record { a = 0; r = 0; d = 0; p = 0; u = 0; i = 0; f = 0 };
+      states = padded 32 states;
+    }

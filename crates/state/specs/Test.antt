@@ -1,0 +1,84 @@
+-- The rules of a state as a test that is computed: what the code decides. `Keeps` says the same in the paper's words.
+use mathlib.Core.Bool.{Bool, true, false, cond, not, _&&_}
+use mathlib.Core.List.{List, [], _∷_}
+use Prim.Native.Nat.{ℕ, suc}
+use lib.Dec.{leb, eqb}
+use lib.ListN.{take, drop}
+use Rattle.state.specs.declared.types.Config.{Config}
+use Rattle.state.specs.declared.types.Run.{Run}
+use Rattle.state.specs.Tables.{Route, FaultRow, Tables, routeId, faultId, routed, tablesOf}
+use Rattle.state.specs.Rules.{member, basicsOk, routeOk, protectedOk, rowOk}
+use Rattle.state.specs.Keeps.{mostTicks}
+
+module _ {A : Type 0} where
+  -- ids rise from low on, and each row passes the test
+  abbrev pub risingAll : (A → ℕ) → (A → Bool) → ℕ → List A → Bool
+  risingAll id p low [] = true
+  risingAll id p low (x ∷ xs) = leb low (id x) && (p x && risingAll id p (suc (id x)) xs)
+
+abbrev pub clear : List ℕ → Bool
+clear [] = true
+clear (x ∷ xs) = eqb x 0 && clear xs
+
+abbrev pub argsClear : List ℕ → List ℕ → Bool
+argsClear [] xs = clear xs
+argsClear (n ∷ counts) xs = leb n 16 && (clear (drop n (take 16 xs)) && argsClear counts (drop 16 xs))
+
+abbrev pub routePasses : ℕ → Route → Bool
+routePasses base r = routeOk base (r .id) (r .dest)
+
+abbrev pub protectedPasses : ℕ → List ℕ → ℕ → Bool
+protectedPasses base ids id = protectedOk base (member id ids) id
+
+abbrev pub rowPasses : List ℕ → FaultRow → Bool
+rowPasses ids r = rowOk (member (r .response) ids) (r .latching)
+
+unfoldable pub routesKept : ℕ → List Route → Bool
+routesKept base routes = risingAll routeId (routePasses base) 0 routes
+
+unfoldable pub protectedKept : ℕ → List ℕ → List ℕ → Bool
+protectedKept base ids protected = risingAll (λ id. id) (protectedPasses base ids) 0 protected
+
+unfoldable pub rowsKept : List ℕ → List FaultRow → Bool
+rowsKept ids rows = risingAll faultId (rowPasses ids) 0 rows
+
+unfoldable pub rulesKept : Tables → Bool
+rulesKept t =
+    basicsOk (t .ground) (t .fault) (t .base)
+    && (routesKept (t .base) (t .routes)
+    && (protectedKept (t .base) (routed t) (t .protected)
+    && rowsKept (routed t) (t .rows)))
+
+unfoldable pub counted : ℕ → ℕ → ℕ → Bool
+counted nroutes nprotected nrows = leb nroutes 128 && (leb nprotected 32 && leb nrows 32)
+
+unfoldable pub unusedClear : Config → Bool
+unusedClear c =
+    clear (drop (c .nroutes) (c .routeids))
+    && (clear (drop (c .nroutes) (c .dests))
+    && (clear (drop (c .nprotected) (c .protected))
+    && (clear (drop (c .nrows) (c .faultids))
+    && (clear (drop (c .nrows) (c .responses))
+    && (clear (drop (c .nrows) (c .latching))
+    && (clear (drop (c .nrows) (c .argcounts))
+    && argsClear (take (c .nrows) (c .argcounts)) (c .args)))))))
+
+unfoldable pub configKept : Config → Bool
+configKept c = counted (c .nroutes) (c .nprotected) (c .nrows) && (rulesKept (tablesOf c) && unusedClear c)
+
+unfoldable pub armOk : Bool → ℕ → Bool
+armOk armed ticks = cond armed (leb ticks mostTicks) (eqb ticks 0)
+
+unfoldable pub stateOk : ℕ → ℕ → Bool
+stateOk latching s = leb s 2 && not (eqb s 2 && eqb latching 0)
+
+abbrev pub statesOk : List FaultRow → List ℕ → Bool
+statesOk [] ss = clear ss
+statesOk (r ∷ rows) [] = true
+statesOk (r ∷ rows) (s ∷ ss) = stateOk (r .latching) s && statesOk rows ss
+
+unfoldable pub runKept : Tables → Run → Bool
+runKept t r = armOk (r .arm .armed) (r .arm .ticks) && statesOk (t .rows) (r .states)
+
+unfoldable pub keepsRules : Config → Run → Bool
+keepsRules c r = configKept c && runKept (tablesOf c) r

@@ -1,0 +1,45 @@
+// What the state is made of. The tables stand in arrays of numbers, one array for each column, because that is what a step
+// looks through fastest; rows that are not in use are zero.
+
+// The configuration: sources, own base, and the three tables with the counts of their rows in use.
+pub struct Config {
+    pub ground: u16,
+    pub fault: u16,
+    pub base: u16,
+    pub nroutes: usize,
+    pub routeids: [u16; 128],
+    pub dests: [u8; 128],
+    pub nprotected: usize,
+    pub protected: [u16; 32],
+    pub nrows: usize,
+    pub faultids: [u16; 32],
+    pub responses: [u16; 32],
+    pub latching: [u8; 32],
+    pub argcounts: [u8; 32],
+    // the argument bytes of row k stand from place 16 k on
+    pub args: [u8; 512],
+}
+
+// The small arm record.
+pub struct Arm {
+    pub armed: bool,
+    pub ticks: u16,
+}
+
+// The seven counters, in the paper's order: accepted, rejected, dispatched, protected, unknown, invalid, faults.
+pub struct Counts {
+    pub a: u16,
+    pub r: u16,
+    pub d: u16,
+    pub p: u16,
+    pub u: u16,
+    pub i: u16,
+    pub f: u16,
+}
+
+// What steps change. A fault state is 0 disabled, 1 enabled, 2 latched.
+pub struct Run {
+    pub arm: Arm,
+    pub counts: Counts,
+    pub states: [u8; 32],
+}
