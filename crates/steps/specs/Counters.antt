@@ -1,0 +1,43 @@
+-- Document 01, the answer table's column "counter". Counters wrap at 65,536.
+use mathlib.Core.Bool.{Bool, true, false, cond, _&&_, _||_}
+use Prim.Native.Nat.{ℕ, _+_, _%_}
+use lib.Dec.{eqb}
+use Rattle.state.specs.declared.types.Counts.{Counts}
+
+-- one more where the test holds
+abbrev pub up : Bool → ℕ → ℕ
+up true x = (x + 1) % 65536
+up false x = x
+
+abbrev pub noCounts : Counts
+noCounts = record { a = 0; r = 0; d = 0; p = 0; u = 0; i = 0; f = 0 }
+
+-- an own command that was not well formed: wrong argument count, or a fault id not in the table
+abbrev pub invalidAnswer : ℕ → Bool
+invalidAnswer n = eqb n 31 || eqb n 32
+
+-- an accepted packet with the answer n
+abbrev pub accepted : ℕ → Counts → Counts
+accepted n c =
+    record {
+      a = up true (c .a);
+      r = c .r;
+      d = up (eqb n 10) (c .d);
+      p = up (eqb n 30) (c .p);
+      u = up (eqb n 33) (c .u);
+      i = up (invalidAnswer n) (c .i);
+      f = c .f;
+    }
+
+-- a reset (own command 1, answer 12) leaves all seven at zero, its own count included
+unfoldable pub packetCounts : ℕ → ℕ → Counts → Counts
+packetCounts n k c = cond (eqb n 12 && eqb k 1) noCounts (accepted n c)
+
+-- a rejected packet
+unfoldable pub rejectedCounts : Counts → Counts
+rejectedCounts c = record { a = c .a; r = up true (c .r); d = c .d; p = c .p; u = c .u; i = c .i; f = c .f }
+
+-- a fault with the answer n
+unfoldable pub faultCounts : ℕ → Counts → Counts
+faultCounts n c =
+    record { a = c .a; r = c .r; d = up (eqb n 10) (c .d); p = c .p; u = c .u; i = c .i; f = up true (c .f) }

@@ -1,0 +1,28 @@
+-- Document 01: the bytes of a command that is sent on, and what a step leaves in the output.
+use mathlib.Core.Bool.{cond}
+use mathlib.Core.List.{List, [], _∷_, _++_}
+use Prim.Native.Nat.{ℕ, _/_, _%_}
+use lib.Dec.{eqb}
+use lib.ListN.{length, drop}
+use Rattle.state.specs.Tables.{Route}
+
+-- source, command id (big-endian, two bytes each), argument count (one byte), arguments
+abbrev pub commandBytes : ℕ → ℕ → List ℕ → List ℕ
+commandBytes source id args = source / 256 ∷ source % 256 ∷ id / 256 ∷ id % 256 ∷ length args ∷ args
+
+-- from the start of the output; later bytes stay
+abbrev pub over : List ℕ → List ℕ → List ℕ
+over xs out = xs ++ drop (length xs) out
+
+-- a step writes output only for answer 10
+unfoldable pub sent : ℕ → ℕ → ℕ → List ℕ → List ℕ → List ℕ
+sent n source id args out = cond (eqb n 10) (over (commandBytes source id args) out) out
+
+-- a number that is set for 10 only, else 0
+abbrev pub for10 : ℕ → ℕ → ℕ
+for10 n x = cond (eqb n 10) x 0
+
+-- the destination of a command id by its route
+abbrev pub destOf : ℕ → List Route → ℕ
+destOf id [] = 0
+destOf id (r ∷ rs) = cond (eqb id (r .id)) (r .dest) (destOf id rs)

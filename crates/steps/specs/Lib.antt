@@ -1,0 +1,11 @@
+pub mod FaultStates
+pub mod FaultLaws
+pub mod Own
+pub mod Arming
+pub mod ArmingLaws
+pub mod Counters
+pub mod Dispatch
+pub mod DispatchLaws
+pub mod Answers
+pub mod OwnLaws
+pub mod Step

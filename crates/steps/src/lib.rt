@@ -1,0 +1,7 @@
+// The steps of the path: a packet, a tick or a fault on a state, its answer, the state it leaves, and the command sent on.
+pub mod arm;
+pub mod counts;
+pub mod dispatch;
+pub mod faults;
+pub mod own;
+pub mod types;
