@@ -4,3 +4,4 @@ pub mod Keeps
 pub mod Test
 pub mod Lookup
 pub mod LookupLaws
+pub mod ArrayLaws
