@@ -9,16 +9,14 @@ use lib.ListN.{length, getD, take, drop, set, replicate, length-append, length-m
 use lib.Seq.{length-take-le, drop-cons, drop-drop, set-at, take-at, drop-at, drop-append-add, take-append-seam}
 use Rattle.wire.specs.Put.{putAt}
 use Rattle.state.specs.declared.types.Config.{Config}
-use Rattle.state.specs.Tables.{Route, FaultRow, Tables, routeId, faultId, argsOf, routed, listed, routeAt, rowAt, tablesOf, padded, flat, configOf}
-use Rattle.state.specs.Keeps.{Each}
+use Rattle.state.specs.Tables.{Route, FaultRow, Tables, routeId, faultId, argsOf, routed, listed, routeAt, rowAt, tablesOf, padded, flat, configOf, freshRun}
+use Rattle.state.specs.Sized.{Sized}
+use Rattle.state.specs.Keeps.{Each, Rules, Clear, ArgsClear, Unused, StatesOk, Keeps}
+use Rattle.state.specs.KeepsLaws.{Few, length-listed}
 
 -- ---- a list read off places
 
 module _ {A : Type 0} where
-  pub listed-count : (f : ℕ → A) (k n : ℕ) → length (listed f k n) ≡ n
-  listed-count f k zero = refl
-  listed-count f k (suc n) = ap suc (listed-count f (suc k) n)
-
   -- the places from k on give these, one after the other
   pub listed-back : (f : ℕ → A) (d : A) (k : ℕ) (xs : List A) → ((i : ℕ) → i < length xs → f (k + i) ≡ getD xs i d) → listed f k (length xs) ≡ xs
   listed-back f d k [] h = refl
@@ -138,36 +136,19 @@ tables-back t s = rw (routes-back (t .routes), padded-take 32 (t .protected) (le
 
 -- ---- the arrays of tables
 
-pub record Few (t : Tables) : Type 0 where
-  pub few-routes : length (t .routes) ≤ 128
-  pub few-protected : length (t .protected) ≤ 32
-  pub few-rows : length (t .rows) ≤ 32
-  pub short-rows : Short (t .rows)
-
--- what a Config of the code always is
-pub record Sized (c : Config) : Type 0 where
-  pub routeids-long : length (c .routeids) ≡ 128
-  pub dests-long : length (c .dests) ≡ 128
-  pub protected-long : length (c .protected) ≡ 32
-  pub faultids-long : length (c .faultids) ≡ 32
-  pub responses-long : length (c .responses) ≡ 32
-  pub latching-long : length (c .latching) ≡ 32
-  pub argcounts-long : length (c .argcounts) ≡ 32
-  pub args-long : length (c .args) ≡ 512
-
 pub arrays-sized : (t : Tables) → Few t → Sized (configOf t)
 arrays-sized t f =
     record {
-      routeids-long = route-column routeId;
-      dests-long = route-column (λ r. r .dest);
-      protected-long = padded-length 32 (t .protected) (f .few-protected);
-      faultids-long = row-column faultId;
-      responses-long = row-column (λ r. r .response);
-      latching-long = row-column (λ r. r .latching);
-      argcounts-long = row-column (λ r. length (r .args));
-      args-long =
+      routeids-128 = route-column routeId;
+      dests-128 = route-column (λ r. r .dest);
+      protected-32 = padded-length 32 (t .protected) (f .few-protected);
+      faultids-32 = row-column faultId;
+      responses-32 = row-column (λ r. r .response);
+      latching-32 = row-column (λ r. r .latching);
+      argcounts-32 = row-column (λ r. length (r .args));
+      args-512 =
           padded-length 512 (flat (map argsOf (t .rows)))
-          (rw (flat-length (map argsOf (t .rows)) (short-args (t .rows) (f .short-rows)), length-map (t .rows) argsOf) (omega (arith, f .few-rows)));
+          (rw (flat-length (map argsOf (t .rows)) (short-args (t .rows) (f .few-args)), length-map (t .rows) argsOf) (omega (arith, f .few-rows)));
     }
   where
     route-column : (g : Route → ℕ) → length (padded 128 (map g (t .routes))) ≡ 128
@@ -180,13 +161,13 @@ arrays-sized t f =
 
 module _ (c : Config) where
   pub routes-count : length (tablesOf c .routes) ≡ c .nroutes
-  routes-count = listed-count (routeAt (c .routeids) (c .dests)) 0 (c .nroutes)
+  routes-count = length-listed (routeAt (c .routeids) (c .dests)) 0 (c .nroutes)
 
   pub protected-count : c .nprotected ≤ length (c .protected) → length (tablesOf c .protected) ≡ c .nprotected
   protected-count h = length-take-le (c .nprotected) (c .protected) h
 
   pub rows-count : length (tablesOf c .rows) ≡ c .nrows
-  rows-count = listed-count (rowAt (c .faultids) (c .responses) (c .latching) (c .argcounts) (c .args)) 0 (c .nrows)
+  rows-count = length-listed (rowAt (c .faultids) (c .responses) (c .latching) (c .argcounts) (c .args)) 0 (c .nrows)
 
   pub routed-is : c .nroutes ≤ length (c .routeids) → routed (tablesOf c) ≡ take (c .nroutes) (c .routeids)
   routed-is h = map-listed routeId (routeAt (c .routeids) (c .dests)) 0 (c .nroutes) ∙ column-is (c .routeids) (c .nroutes) h
@@ -195,3 +176,76 @@ module _ (c : Config) where
   fault-ids-are h =
       map-listed faultId (rowAt (c .faultids) (c .responses) (c .latching) (c .argcounts) (c .args)) 0 (c .nrows)
       ∙ column-is (c .faultids) (c .nrows) h
+
+-- ---- tables that keep their rules keep them in arrays, with a fresh run
+
+pub each-map : {A : Type 0} {P Q : A → Type 0} → ((x : A) → P x → Q x) → (xs : List A) → Each P xs → Each Q xs
+each-map f [] h = tt
+each-map f (x ∷ xs) h = (f x (h .0), each-map f xs (h .1))
+
+pub rules-few : {t : Tables} → Rules t → Few t
+rules-few {t} k =
+    record {
+      few-routes = k .few-routes;
+      few-protected = k .few-protected;
+      few-rows = k .few-rows;
+      few-args = each-map (λ r h. h .few-args) (t .rows) (k .rows-ok);
+    }
+
+zeros-clear : (n : ℕ) → Clear (replicate n 0)
+zeros-clear zero = tt
+zeros-clear (suc n) = (refl, zeros-clear n)
+
+behind-clear : (limit : ℕ) (xs : List ℕ) (n : ℕ) → length xs ≡ n → Clear (drop n (padded limit xs))
+behind-clear limit xs n e = rw (padded-drop limit xs n e) (zeros-clear (limit - n))
+
+args-behind : (rows : List FaultRow) (z : List ℕ) → Short rows → Clear z → ArgsClear (map (λ r. length (r .args)) rows) (flat (map argsOf rows) ++ z)
+args-behind [] z s k = k
+args-behind (r ∷ rows) z s k =
+    let p = padded 16 (r .args) in
+    let f = flat (map argsOf rows) in
+    let n : length p ≡ 16 = padded-length 16 (r .args) (s .0) in
+    rw (append-assoc p f z, take-at p (f ++ z) 16 n, drop-at p (f ++ z) 16 n)
+    (s .0, behind-clear 16 (r .args) (length (r .args)) refl, args-behind rows z (s .1) k)
+
+starts-ok : (rows : List FaultRow) (starts : List ℕ) (n : ℕ) → length starts ≡ length rows → Each (λ s. s ≤ 1) starts → StatesOk rows (starts ++ replicate n 0)
+starts-ok [] [] n e h = zeros-clear n
+starts-ok [] (s ∷ starts) n e h = absurd (omega arith)
+starts-ok (r ∷ rows) [] n e h = absurd (omega arith)
+starts-ok (r ∷ rows) (s ∷ starts) n e h =
+    (record { known = omega (arith, h .0); may-latch = λ p q. omega (arith, h .0) }, starts-ok rows starts n (omega arith) (h .1))
+
+unused-clear : (t : Tables) → Few t → Unused (configOf t)
+unused-clear t f =
+    record {
+      routeids-clear = route-column routeId;
+      dests-clear = route-column (λ r. r .dest);
+      protected-clear = behind-clear 32 (t .protected) (length (t .protected)) refl;
+      faultids-clear = row-column faultId;
+      responses-clear = row-column (λ r. r .response);
+      latching-clear = row-column (λ r. r .latching);
+      argcounts-clear = row-column counts;
+      args-clear =
+          rw (padded-take 32 (map counts (t .rows)) (length (t .rows)) (length-map (t .rows) counts))
+          (args-behind (t .rows) (replicate (512 - length (flat (map argsOf (t .rows)))) 0) (f .few-args) (zeros-clear (512 - length (flat (map argsOf (t .rows))))));
+    }
+  where
+    counts : FaultRow → ℕ
+    counts r = length (r .args)
+
+    route-column : (g : Route → ℕ) → Clear (drop (length (t .routes)) (padded 128 (map g (t .routes))))
+    route-column g = behind-clear 128 (map g (t .routes)) (length (t .routes)) (length-map (t .routes) g)
+
+    row-column : (g : FaultRow → ℕ) → Clear (drop (length (t .rows)) (padded 32 (map g (t .rows))))
+    row-column g = behind-clear 32 (map g (t .rows)) (length (t .rows)) (length-map (t .rows) g)
+
+pub arrays-keep : (t : Tables) (starts : List ℕ) → Rules t → length starts ≡ length (t .rows) → Each (λ s. s ≤ 1) starts → Keeps (configOf t) (freshRun starts)
+arrays-keep t starts k e h =
+    let f = rules-few k in
+    let back = tables-back t (f .few-args) in
+    record {
+      within = k .few-protected;
+      rules = rw back k;
+      unused = unused-clear t f;
+      run-ok = rw back (record { arm-ok = refl; states-ok = starts-ok (t .rows) starts (32 - length starts) e h });
+    }
