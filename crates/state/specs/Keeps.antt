@@ -99,8 +99,10 @@ pub record RunOk (t : Tables) (r : Run) : Type 0 where
   pub arm-ok : ArmOk (r .arm .armed) (r .arm .ticks)
   pub states-ok : StatesOk (t .rows) (r .states)
 
--- a state that keeps its rules
+-- a state that keeps its rules. The protected ids are taken from their array, whose length would hide a larger count from
+-- `rules`; the other two tables have as many rows as their counts say
 pub record Keeps (c : Config) (r : Run) : Type 0 where
+  pub within : c .nprotected ≤ 32
   pub rules : Rules (tablesOf c)
   pub unused : Unused c
   pub run-ok : RunOk (tablesOf c) r
