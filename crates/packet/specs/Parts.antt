@@ -1,11 +1,13 @@
 -- What acceptance means for the bytes of a packet: which of them are arguments, which are pads, and that the XOR has the
 -- pads in it; and that the high bit of the function code changes nothing.
 use mathlib.Core.Path.{_≡_, refl, sym, ap, ap₂, _∙_}
+use mathlib.Core.Bool.{Bool, true, false}
 use mathlib.Core.List.{List, _++_}
 use Prim.Native.Nat.{ℕ, _+_, _-_, _%_, _≤_, _<_}
 use native.Mathlib.Omega.{arith}
 use lib.Bits.{bitXor}
-use lib.Dec.{lit<, lit≤}
+use lib.Dec.{eqb, lit<, lit≤}
+use borrow.Author.Tests.{eqb-true, eqb-false}
 use lib.ListN.{length, getD, take, drop, length-take, length-drop, take-append-drop}
 use lib.Seq.{ext-getD, getD-drop, getD-take}
 use Rattle.wire.specs.Xor.{xorAll}
@@ -13,7 +15,7 @@ use Rattle.wire.specs.XorLaws.{xor-append}
 use Rattle.packet.specs.Layout.{byte, dataLength, pads, argCount, argumentPart, padPart}
 use Rattle.packet.specs.Judge.{refusalOf, judgeOf, argumentsOf, argumentsAt}
 use Rattle.packet.specs.Outcome.{Accepts}
-use Rattle.packet.specs.Laws.{accepted, arguments-accepted}
+use Rattle.packet.specs.Laws.{accepts, arguments-accepted, arguments-refused}
 
 module _ {s : List ℕ} (a : Accepts s) where
   -- the argument count is data length - pads - 4, and that is how long the argument part is
@@ -35,6 +37,14 @@ module _ {s : List ℕ} (a : Accepts s) where
   -- the pads are inside the XOR
   pub xor-with-pads : bitXor (xorAll (take 10 s)) (bitXor (xorAll (argumentsOf s)) (xorAll (padPart s))) ≡ 0
   xor-with-pads = rw (← xor-append (argumentsOf s), ← xor-append (take 10 s), ← whole-packet) (a .formed .xor-0)
+
+-- there are never more than 255 arguments, and none where the packet is refused
+pub arguments-few : (s : List ℕ) → length (argumentsOf s) ≤ 255
+arguments-few s = split (eqb (refusalOf s) 0) refl
+  where
+    split : (b : Bool) → eqb (refusalOf s) 0 ≡ b → length (argumentsOf s) ≤ 255
+    split true e = let a = accepts s (eqb-true _ _ e) in omega (arith, argument-count a)
+    split false e = rw (arguments-refused s (eqb-false _ _ e)) (lit≤ tt)
 
 -- two packets that differ in the high bit of the function code, and in the checksum that answers for it
 pub record SameButHighBit (s t : List ℕ) : Type 0 where

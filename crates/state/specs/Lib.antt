@@ -7,3 +7,4 @@ pub mod KeepsLaws
 pub mod Lookup
 pub mod LookupLaws
 pub mod ArrayLaws
+pub mod Columns

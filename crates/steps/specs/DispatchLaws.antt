@@ -16,10 +16,10 @@ put-twice out head rest n e =
     let long : 0 + length head + length rest ≡ length (head ++ rest) = omega (arith, length-append head rest) in
     let a : take n (head ++ behind) ≡ head = take-at head behind n e in
     let b : drop (n + length rest) (head ++ behind) ≡ drop (length (head ++ rest)) out =
-        ap (λ (k : ℕ). drop (k + length rest) (head ++ behind)) (sym e)
-        ∙ drop-append-add head behind (length rest)
-        ∙ drop-drop (length rest) (0 + length head) out
-        ∙ ap (λ (k : ℕ). drop k out) long in
+    ap (λ (k : ℕ). drop (k + length rest) (head ++ behind)) (sym e)
+    ∙ drop-append-add head behind (length rest)
+    ∙ drop-drop (length rest) (0 + length head) out
+    ∙ ap (λ (k : ℕ). drop k out) long in
     rw (a, b)
 
 module _ (n source id : ℕ) (args out : List ℕ) where

@@ -1,5 +1,7 @@
+pub mod Bare
 pub mod FaultStates
 pub mod FaultLaws
+pub mod RowLaws
 pub mod Own
 pub mod Arming
 pub mod ArmingLaws
@@ -8,4 +10,9 @@ pub mod Dispatch
 pub mod DispatchLaws
 pub mod Answers
 pub mod OwnLaws
+pub mod AnswerLaws
 pub mod Step
+pub mod StateLaws
+pub mod StepLaws
+pub mod Found
+pub mod FaultStepLaws

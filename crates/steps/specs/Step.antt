@@ -10,18 +10,14 @@ use Rattle.state.specs.declared.types.Config.{Config}
 use Rattle.state.specs.declared.types.Run.{Run}
 use Rattle.state.specs.Tables.{FaultRow, Tables, tablesOf}
 use Rattle.state.specs.Test.{keepsRules}
-use Rattle.steps.specs.declared.types.Answer.{Answer}
 use Rattle.steps.specs.declared.types.Stepped.{Stepped}
+use Rattle.steps.specs.Bare.{bareAnswer, unchanged}
 use Rattle.steps.specs.FaultStates.{fault, actOn, clearAll, rowFor}
 use Rattle.steps.specs.Own.{ownNumber, onRow, eventOf, faultArg}
 use Rattle.steps.specs.Arming.{armAfter, ticked, tickAnswer}
 use Rattle.steps.specs.Counters.{packetCounts, rejectedCounts, faultCounts}
 use Rattle.steps.specs.Dispatch.{sent, for10, destOf}
 use Rattle.steps.specs.Answers.{answerTo, faultAnswer}
-
--- an answer with no id
-abbrev pub bare : ℕ → Answer
-bare n = record { answer = n; id = 0; dest = 0; written = 0 }
 
 -- ---- a packet
 
@@ -55,7 +51,7 @@ unfoldable pub rejectedStep : Run → ℕ → Stepped
 rejectedStep run n =
     record {
       run = record { arm = run .arm; counts = rejectedCounts (run .counts); states = run .states };
-      answer = bare n;
+      answer = bareAnswer n;
     }
 
 -- 22 to 29 by the judge, else what its id and arguments ask
@@ -73,7 +69,7 @@ unfoldable pub tickStep : Run → Stepped
 tickStep run =
     record {
       run = record { arm = ticked (run .arm .armed) (run .arm .ticks); counts = run .counts; states = run .states };
-      answer = bare (tickAnswer (run .arm .armed) (run .arm .ticks));
+      answer = bareAnswer (tickAnswer (run .arm .armed) (run .arm .ticks));
     }
 
 -- ---- a fault
@@ -105,10 +101,6 @@ unfoldable pub faultOutput : Tables → ℕ → ℕ → List ℕ → List ℕ
 faultOutput t n f out = sent n (t .fault) (rowFor f (t .rows) .response) (rowFor f (t .rows) .args) out
 
 -- ---- on any state, with any output room
-
--- 20 and 21 change nothing at all
-abbrev pub unchanged : Run → ℕ → Stepped
-unchanged run n = record { run = run; answer = bare n }
 
 -- 20, then 21, then the step
 abbrev pub judged : Config → Run → ℕ → Stepped → Stepped

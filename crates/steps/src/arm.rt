@@ -1,6 +1,5 @@
 // The arm record by value: what an accepted packet and a tick make of it.
 use state::types::Arm;
-
 ghost use mathlib.Core.Path.{_≡_};
 ghost use Rattle.steps.specs.Arming.{armAfter, ticked, tickAnswer};
 

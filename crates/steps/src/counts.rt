@@ -1,6 +1,5 @@
 // The seven counters: which of them a step moves. They wrap at 65,536.
 use state::types::Counts;
-
 ghost use mathlib.Core.Path.{_≡_};
 ghost use Rattle.steps.specs.Counters.{up, invalidAnswer, packetCounts, accepted, rejectedCounts, faultCounts};
 

@@ -22,7 +22,13 @@ pub fn write(out: &mut [u8], source: u16, id: u16, args: &[u8]) -> u16
     requires { ⌜ (260 ≤ length (now out)) × (length (now args) ≤ 255) ⌝ }
     ensures { λ r. ⌜ (r ≡ 5 + length (now (args .entry))) × (now (out .exit) ≡ over (commandBytes source id (now (args .entry))) (now (out .entry))) ⌝ }
 {
-    let head = [high(source), low(source), high(id), low(id), args.len() as u8];
+    let head = [
+        high(source),
+        low(source),
+        high(id),
+        low(id),
+        args.len() as u8,
+    ];
     wire::put::bytes(out, 0, &head);
     wire::put::bytes(out, 5, args);
     5 + args.len() as u16

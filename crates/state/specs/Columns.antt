@@ -1,0 +1,38 @@
+-- A state that keeps its rules has its ids in rising columns, and no fault state above 2: what lookups and steps ask.
+use mathlib.Core.Path.{_≡_, refl, sym, ap, _∙_}
+use mathlib.Core.List.{List, [], _∷_}
+use Prim.Native.Nat.{ℕ, zero, suc, _≤_}
+use native.Mathlib.Omega.{arith}
+use lib.ListN.{length, getD, take}
+use Rattle.state.specs.declared.types.Config.{Config}
+use Rattle.state.specs.declared.types.Run.{Run}
+use Rattle.state.specs.Tables.{FaultRow, tablesOf}
+use Rattle.state.specs.Keeps.{Clear, StatesOk, Rising, Rules, Keeps}
+use Rattle.state.specs.Sized.{Sized}
+use Rattle.state.specs.Lookup.{Column}
+use Rattle.state.specs.ArrayLaws.{routes-count, rows-count, routed-is, fault-ids-are}
+
+module _ {c : Config} {run : Run} (k : Keeps c run) (s : Sized c) where
+  pub route-column : Column 128 (c .routeids) (c .nroutes)
+  route-column =
+      let n : c .nroutes ≤ 128 = omega (arith, routes-count c, k .rules .few-routes) in
+      record { long = s .routeids-128; within = n; rise = rw (routed-is c (omega arith)) at (k .rules .routes-rise) }
+
+  pub protected-column : Column 32 (c .protected) (c .nprotected)
+  protected-column = record { long = s .protected-32; within = k .within; rise = k .rules .protected-rise }
+
+  pub fault-column : Column 32 (c .faultids) (c .nrows)
+  fault-column =
+      let n : c .nrows ≤ 32 = omega (arith, rows-count c, k .rules .few-rows) in
+      record { long = s .faultids-32; within = n; rise = rw (fault-ids-are c (omega arith)) at (k .rules .rows-rise) }
+
+clear-small : (ss : List ℕ) → Clear ss → (k : ℕ) → getD ss k 0 ≤ 2
+clear-small [] h k = omega arith
+clear-small (s ∷ ss) h zero = omega (arith, h .0)
+clear-small (s ∷ ss) h (suc k) = clear-small ss (h .1) k
+
+pub states-small : (rows : List FaultRow) (ss : List ℕ) → StatesOk rows ss → (k : ℕ) → getD ss k 0 ≤ 2
+states-small [] ss h k = clear-small ss h k
+states-small (r ∷ rows) [] h k = omega arith
+states-small (r ∷ rows) (s ∷ ss) h zero = h .0 .known
+states-small (r ∷ rows) (s ∷ ss) h (suc k) = states-small rows ss (h .1) k

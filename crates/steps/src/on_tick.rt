@@ -1,0 +1,23 @@
+// The tick step.
+use crate::arm;
+use crate::types::Stepped;
+use state::types::Config;
+use state::types::Run;
+
+ghost use mathlib.Core.Path.{_≡_};
+ghost use Rattle.steps.specs.Step.{tickStep};
+
+// A tick on a run: only the arm record may change.
+pub fn inner_tick(run: Run) -> Stepped
+    ensures { λ r. ⌜ r ≡ tickStep run ⌝ }
+{
+    let old = run.arm;
+    let n = arm::tick_answer(old);
+    let next = arm::after_tick(old);
+    let mut left = run;
+    left.arm = next;
+    Stepped {
+        run: left,
+        answer: crate::types::bare(n),
+    }
+}
