@@ -16,3 +16,8 @@ pub mod StateLaws
 pub mod StepLaws
 pub mod Found
 pub mod FaultStepLaws
+pub mod Outcome
+pub mod Demand1
+pub mod RulesKept
+pub mod Demand2
+pub mod Excluded

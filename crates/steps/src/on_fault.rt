@@ -5,7 +5,6 @@ use crate::types::Answer;
 use crate::types::Stepped;
 use state::types::Config;
 use state::types::Run;
-
 ghost use mathlib.Core.Path.{_≡_};
 ghost use Prim.Native.Nat.{_+_, _*_, _≤_, _<_};
 ghost use lib.ListN.{length, take, drop};

@@ -7,7 +7,6 @@ use crate::types::Answer;
 use crate::types::Stepped;
 use state::types::Config;
 use state::types::Run;
-
 ghost use mathlib.Core.Path.{_≡_};
 ghost use Prim.Native.Nat.{ℕ, _≤_};
 ghost use lib.ListN.{length, getD, take};
@@ -31,7 +30,14 @@ fn rejected(run: Run, n: u8) -> Stepped
 }
 
 // The fault states after an accepted packet with the answer n and the own number k.
-fn states_after(states: [u8; 32], n: u8, k: u8, args: &[u8], ids: &[u16; 32], rows: usize) -> [u8; 32]
+fn states_after(
+    states: [u8; 32],
+    n: u8,
+    k: u8,
+    args: &[u8],
+    ids: &[u16; 32],
+    rows: usize,
+) -> [u8; 32]
     requires { ⌜ Column 32 (now ids) rows × ((j : ℕ) → getD states j 0 ≤ 2) ⌝ }
     ensures { λ r. ⌜ r ≡ statesOn (take rows (now (ids .entry))) n k (now (args .entry)) states ⌝ }
 {

@@ -3,7 +3,6 @@ use crate::arm;
 use crate::types::Stepped;
 use state::types::Config;
 use state::types::Run;
-
 ghost use mathlib.Core.Path.{_≡_};
 ghost use Rattle.steps.specs.Step.{tickStep};
 

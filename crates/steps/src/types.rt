@@ -1,6 +1,5 @@
 // What a step hands back.
 use state::types::Run;
-
 ghost use mathlib.Core.Path.{_≡_};
 ghost use Rattle.steps.specs.Bare.{bareAnswer, unchanged};
 

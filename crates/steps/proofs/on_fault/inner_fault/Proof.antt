@@ -40,9 +40,10 @@ inside c =
 
 returns : tie.Need-returns
 returns c =
-    let start = c .before .before .before .before .before .before in
-    (c .silent .ensures ∙ fault-unknown _ _ _ (unknown (start .pre .0) (sized start) _ _ (c .before .before .place .ensures .0) (c .before .if1 .taken)),
-      silent-unsent _ _ _ _ _ _ (c .silent .ensures) refl)
+    let start = c .before .before .before .before .before .before in (
+      c .silent .ensures ∙ fault-unknown _ _ _ (unknown (start .pre .0) (sized start) _ _ (c .before .before .place .ensures .0) (c .before .if1 .taken)),
+      silent-unsent _ _ _ _ _ _ (c .silent .ensures) refl,
+    )
 
 returns-2 : tie.Need-returns-2
 returns-2 c =
@@ -65,12 +66,12 @@ returns-3 c =
     let row = row-is k z _ _ p h in
     let route = sent .before .before .before .before .before .route .ensures in
     let r =
-        fault-sent (tablesOf (g .t1)) (g .t2) (g .fault) (known k z _ _ p h) (state-is k z _ _ p h ∙ sent .before .before .before .before .before .before .before .before .before .before .before .before .if2 .left)
-        (ap (λ (r : FaultRow). r .response) (sym row))
-        (routed-dest _ _ _ _ _ (responds k z _ _ p h) (route .0) (route .1))
-        (sent .respond .ensures .0 ∙ ap (λ (r : FaultRow). 5 + length (r .args)) (sym row))
-        (c .after-fault .ensures)
-        (ap (set (g .t2 .states) (found .place .result)) (c .before .before .row-after .ensures) ∙ row-acts k z _ _ p h fault (sized-run start)) in
+    fault-sent (tablesOf (g .t1)) (g .t2) (g .fault) (known k z _ _ p h) (state-is k z _ _ p h ∙ sent .before .before .before .before .before .before .before .before .before .before .before .before .if2 .left)
+    (ap (λ (r : FaultRow). r .response) (sym row))
+    (routed-dest _ _ _ _ _ (responds k z _ _ p h) (route .0) (route .1))
+    (sent .respond .ensures .0 ∙ ap (λ (r : FaultRow). 5 + length (r .args)) (sym row))
+    (c .after-fault .ensures)
+    (ap (set (g .t2 .states) (found .place .result)) (c .before .before .row-after .ensures) ∙ row-acts k z _ _ p h fault (sized-run start)) in
     (r, sent .respond .ensures .1 ∙ fault-output (tablesOf (g .t1)) (g .t2) (g .fault) (g .out .now) _ _ (ap (λ (r : FaultRow). r .response) (sym row)) (ap (λ (r : FaultRow). r .args) (sym row)))
 
 pub inner-fault-spec : {M : Type 1} → statement M

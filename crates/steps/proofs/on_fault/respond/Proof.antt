@@ -44,9 +44,10 @@ returns : tie.Need-returns
 returns c =
     let g = c .before .before .before .before .before .before .before .args in
     let e : g .k * 16 + g .count - g .k * 16 ≡ g .count = omega arith in
-    let w = c .before .before .write .ensures in
-    (rw e at (w .0),
-      w .1 ∙ ap (λ (n : ℕ). over (commandBytes (g .source) (g .id) (take n (drop (g .k * 16) (g .args .now)))) (g .out .now)) e)
+    let w = c .before .before .write .ensures in (
+      rw e at (w .0),
+      w .1 ∙ ap (λ (n : ℕ). over (commandBytes (g .source) (g .id) (take n (drop (g .k * 16) (g .args .now)))) (g .out .now)) e,
+    )
 
 pub respond-spec : {M : Type 1} → statement M
 respond-spec =

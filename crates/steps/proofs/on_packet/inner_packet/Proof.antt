@@ -49,16 +49,16 @@ returns-2 c =
     let z : refusalOf (g .packet .now) ≡ 0 = sym (judged .refusal .ensures) ∙ part .before .before .if1 .left in
     let s = c .before .before .before .before .send .ensures in
     let r =
-        accepted-is (tablesOf (g .t1)) (g .run) _ (part .accepted-part .result .now)
-        (routed-is (g .t1) (omega (arith, l .route-ids .long, l .route-ids .within)))
-        (ids-are (start .pre .0) (sized start))
-        (decided .before .before .before .before .before .before .number .ensures)
-        (decided .decide .ensures .0)
-        (c .before .after-packet .ensures)
-        (c .after-packet2 .ensures)
-        (c .before .before .before .before .before .before .states-after .ensures)
-        (decided .decide .ensures .1)
-        (s .0) in
+    accepted-is (tablesOf (g .t1)) (g .run) _ (part .accepted-part .result .now)
+    (routed-is (g .t1) (omega (arith, l .route-ids .long, l .route-ids .within)))
+    (ids-are (start .pre .0) (sized start))
+    (decided .before .before .before .before .before .before .number .ensures)
+    (decided .decide .ensures .0)
+    (c .before .after-packet .ensures)
+    (c .after-packet2 .ensures)
+    (c .before .before .before .before .before .before .states-after .ensures)
+    (decided .decide .ensures .1)
+    (s .0) in
     (r ∙ packet-accepted _ _ _ _ _ z i a, s .1 ∙ packet-sent _ _ _ _ _ _ i a)
 
 pub inner-packet-spec : {M : Type 1} → statement M
