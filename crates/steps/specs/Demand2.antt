@@ -18,10 +18,10 @@ use Rattle.state.specs.Tables.{Tables, faultId, routed, tablesOf}
 use Rattle.state.specs.Rules.{member}
 use Rattle.state.specs.Test.{keepsRules}
 use Rattle.steps.specs.declared.types.Stepped.{Stepped}
-use Rattle.steps.specs.FaultStates.{enabled, rowFor, stateFor}
-use Rattle.steps.specs.Dispatch.{commandBytes, over, sent, destOf}
-use Rattle.steps.specs.DispatchLaws.{sent-10}
-use Rattle.steps.specs.Answers.{blocked}
+use Rattle.effects.specs.FaultStates.{enabled, rowFor, stateFor}
+use Rattle.effects.specs.Dispatch.{commandBytes, over, sent, destOf}
+use Rattle.effects.specs.DispatchLaws.{sent-10}
+use Rattle.answers.specs.Answers.{blocked}
 use Rattle.steps.specs.Step.{packetOutput, packetStepOf, faultOutput, faultStepOf, faultStep, faulted, rejectedStep}
 use Rattle.steps.specs.Outcome.{Answered, stopped, miscounted, no-row, row-done, arm-taken, own-done, no-route, goes, Faulted, unlisted, quiet, responds, PacketSteps, packet-steps, FaultSteps, fault-steps}
 use Rattle.steps.specs.Outcome as outcomes

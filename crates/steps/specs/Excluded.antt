@@ -17,9 +17,9 @@ use Rattle.state.specs.declared.types.Run.{Run}
 use Rattle.state.specs.Tables.{Tables, tablesOf}
 use Rattle.state.specs.Rules.{member}
 use Rattle.steps.specs.declared.types.Stepped.{Stepped}
-use Rattle.steps.specs.Arming.{unarmed, armedFor, armAfter, ticked, tickAnswer}
-use Rattle.steps.specs.ArmingLaws.{tick-last, tick-one}
-use Rattle.steps.specs.Answers.{blocked, answerTo}
+use Rattle.effects.specs.Arming.{unarmed, armedFor, armAfter, ticked, tickAnswer}
+use Rattle.effects.specs.ArmingLaws.{tick-last, tick-one}
+use Rattle.answers.specs.Answers.{blocked, answerTo}
 use Rattle.steps.specs.Step.{packetStepOf, faultStepOf, rejectedStep, tickStep}
 use Rattle.steps.specs.Outcome.{only, stopped, PacketSteps, packet-steps}
 use Rattle.steps.specs.Outcome as outcomes

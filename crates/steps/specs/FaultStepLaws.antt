@@ -15,13 +15,13 @@ use Rattle.state.specs.Lookup.{placeIn}
 use Rattle.state.specs.LookupLaws.{found-member}
 use Rattle.steps.specs.declared.types.Stepped.{Stepped}
 use Rattle.steps.specs.Bare.{bareAnswer}
-use Rattle.steps.specs.FaultStates.{enabled, fault, rowAfter, actOn, noRow, rowFor, stateFor}
-use Rattle.steps.specs.Counters.{faultCounts}
-use Rattle.steps.specs.Dispatch.{commandBytes, over, sent, for10, destOf}
-use Rattle.steps.specs.DispatchLaws.{sent-10}
-use Rattle.steps.specs.Answers.{faultAnswer}
-use Rattle.steps.specs.AnswerLaws.{fault-34, fault-13, fault-10}
-use Rattle.steps.specs.RowLaws.{row-at, state-at, act-at}
+use Rattle.effects.specs.FaultStates.{enabled, fault, rowAfter, actOn, noRow, rowFor, stateFor}
+use Rattle.effects.specs.Counters.{faultCounts}
+use Rattle.effects.specs.Dispatch.{commandBytes, over, sent, for10, destOf}
+use Rattle.effects.specs.DispatchLaws.{sent-10}
+use Rattle.answers.specs.Answers.{faultAnswer}
+use Rattle.answers.specs.AnswerLaws.{fault-34, fault-13, fault-10}
+use Rattle.effects.specs.RowLaws.{row-at, state-at, act-at}
 use Rattle.steps.specs.Step.{faulted, faultStep, faultOutput}
 
 unfoldable pub silentStep : Run → ℕ → Stepped

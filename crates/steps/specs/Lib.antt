@@ -1,16 +1,4 @@
 pub mod Bare
-pub mod FaultStates
-pub mod FaultLaws
-pub mod RowLaws
-pub mod Own
-pub mod Arming
-pub mod ArmingLaws
-pub mod Counters
-pub mod Dispatch
-pub mod DispatchLaws
-pub mod Answers
-pub mod OwnLaws
-pub mod AnswerLaws
 pub mod Step
 pub mod StateLaws
 pub mod StepLaws

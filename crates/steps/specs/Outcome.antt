@@ -18,11 +18,11 @@ use Rattle.state.specs.Rules.{member}
 use Rattle.state.specs.Test.{keepsRules}
 use Rattle.steps.specs.declared.types.Stepped.{Stepped}
 use Rattle.steps.specs.Bare.{unchanged}
-use Rattle.steps.specs.FaultStates.{enabled, stateFor}
-use Rattle.steps.specs.Own.{ownNumber, argsWanted, onRow, faultArg}
-use Rattle.steps.specs.Answers.{blocked, routeAnswer, answerTo, faultAnswer}
-use Rattle.steps.specs.OwnLaws.{own-31, own-32, own-row, own-arm, own-other}
-use Rattle.steps.specs.AnswerLaws.{answer-30, answer-own, answer-route, fault-34, fault-13, fault-10}
+use Rattle.effects.specs.FaultStates.{enabled, stateFor}
+use Rattle.answers.specs.Own.{ownNumber, argsWanted, onRow, faultArg}
+use Rattle.answers.specs.Answers.{blocked, routeAnswer, answerTo, faultAnswer}
+use Rattle.answers.specs.OwnLaws.{own-31, own-32, own-row, own-arm, own-other}
+use Rattle.answers.specs.AnswerLaws.{answer-30, answer-own, answer-route, fault-34, fault-13, fault-10}
 use Rattle.steps.specs.Step.{acted, acceptedStep, rejectedStep, packetStep, packetStepOf, faulted, faultStep, faultStepOf, tickStep, tickStepOf}
 use Rattle.steps.specs.StepLaws.{packet-rejected, packet-accepted}
 

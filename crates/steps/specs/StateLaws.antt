@@ -10,11 +10,11 @@ use lib.ListN.{length, getD, set}
 use borrow.Author.Tests.{eq-eqb, ne-eqb}
 use Rattle.state.specs.Tables.{FaultRow, faultId}
 use Rattle.state.specs.Lookup.{placeIn}
-use Rattle.steps.specs.FaultStates.{fault, nextState, rowAfter, actOn, clearAll}
-use Rattle.steps.specs.Own.{onRow, eventOf, faultArg}
+use Rattle.effects.specs.FaultStates.{fault, nextState, rowAfter, actOn, clearAll}
+use Rattle.answers.specs.Own.{onRow, eventOf, faultArg}
 use Rattle.steps.specs.Step.{statesAfter}
-use Rattle.steps.specs.OwnLaws.{row-range}
-use Rattle.steps.specs.RowLaws.{not-fault}
+use Rattle.answers.specs.OwnLaws.{row-range}
+use Rattle.effects.specs.RowLaws.{not-fault}
 
 -- an event that is no fault, on the row of an id
 abbrev pub actById : ℕ → ℕ → List ℕ → List ℕ → List ℕ

@@ -19,11 +19,11 @@ use Rattle.state.specs.Tables.{Tables, faultId, routed, tablesOf}
 use Rattle.state.specs.Test.{keepsRules}
 use Rattle.steps.specs.declared.types.Stepped.{Stepped}
 use Rattle.steps.specs.Bare.{bareAnswer, unchanged}
-use Rattle.steps.specs.Own.{ownNumber}
-use Rattle.steps.specs.Arming.{armAfter}
-use Rattle.steps.specs.Counters.{packetCounts}
-use Rattle.steps.specs.Dispatch.{sent, for10, destOf}
-use Rattle.steps.specs.Answers.{answerFor}
+use Rattle.answers.specs.Own.{ownNumber}
+use Rattle.effects.specs.Arming.{armAfter}
+use Rattle.effects.specs.Counters.{packetCounts}
+use Rattle.effects.specs.Dispatch.{sent, for10, destOf}
+use Rattle.answers.specs.Answers.{answerFor}
 use Rattle.steps.specs.Step.{acted, acceptedStep, rejectedStep, packetStep, packetOutput, packetStepOf, tickStep, tickStepOf, faultStep, faultStepOf}
 use Rattle.steps.specs.StateLaws.{statesOn, states-on}
 

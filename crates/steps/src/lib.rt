@@ -1,11 +1,5 @@
 // The steps of the path: a packet, a tick or a fault on a state, its answer, the state it leaves, and the command sent on.
-pub mod arm;
-pub mod counts;
-pub mod decide;
-pub mod dispatch;
-pub mod faults;
 pub mod on_fault;
 pub mod on_packet;
 pub mod on_tick;
-pub mod own;
 pub mod types;

@@ -1,8 +1,8 @@
 // The fault step.
-use crate::counts;
-use crate::faults;
 use crate::types::Answer;
 use crate::types::Stepped;
+use effects::counts;
+use effects::faults;
 use state::types::Config;
 use state::types::Run;
 ghost use mathlib.Core.Path.{_≡_};
@@ -10,7 +10,7 @@ ghost use Prim.Native.Nat.{_+_, _*_, _≤_, _<_};
 ghost use lib.ListN.{length, take, drop};
 ghost use Rattle.state.specs.Tables.{tablesOf};
 ghost use Rattle.state.specs.Keeps.{Keeps};
-ghost use Rattle.steps.specs.Dispatch.{commandBytes, over};
+ghost use Rattle.effects.specs.Dispatch.{commandBytes, over};
 ghost use Rattle.steps.specs.Step.{faultStep, faultOutput};
 ghost use Rattle.steps.specs.FaultStepLaws.{silentStep};
 
@@ -34,7 +34,7 @@ fn respond(out: &mut [u8], source: u16, id: u16, args: &[u8], k: usize, count: u
 {
     let from = k * 16;
     let end = from + count as usize;
-    crate::dispatch::write(out, source, id, &args[from..end])
+    effects::dispatch::write(out, source, id, &args[from..end])
 }
 
 // The step of a state that keeps its rules, with room: the response goes straight to the router, even for a protected id.
@@ -56,7 +56,7 @@ pub fn inner_fault(config: Config, run: Run, fault: u16, out: &mut [u8]) -> Step
     let id = config.responses[k];
     let count = config.argcounts[k];
     let latching = config.latching[k];
-    let d = crate::decide::route(&config.routeids, &config.dests, config.nroutes, id);
+    let d = answers::decide::route(&config.routeids, &config.dests, config.nroutes, id);
     let written = respond(out, config.fault, id, &config.args, k, count);
     let mut left = run;
     left.states[k] = faults::row_after(latching, s, 3);

@@ -1,10 +1,10 @@
 // The packet step.
-use crate::arm;
-use crate::counts;
-use crate::faults;
-use crate::own;
 use crate::types::Answer;
 use crate::types::Stepped;
+use answers::own;
+use effects::arm;
+use effects::counts;
+use effects::faults;
 use state::types::Config;
 use state::types::Run;
 ghost use mathlib.Core.Path.{_≡_};
@@ -74,7 +74,7 @@ pub fn inner_packet(config: Config, run: Run, packet: &[u8], out: &mut [u8]) -> 
     let id = packet::judge::command_id(packet);
     let args = packet::enquiry::accepted_part(packet);
     let k = own::number(config.base, id);
-    let d = crate::decide::decide(
+    let d = answers::decide::decide(
         &config.protected,
         config.nprotected,
         &config.faultids,
@@ -90,7 +90,7 @@ pub fn inner_packet(config: Config, run: Run, packet: &[u8], out: &mut [u8]) -> 
     let n = d.answer;
     let old = run.states;
     let states = states_after(old, n, k, args, &config.faultids, config.nrows);
-    let written = crate::dispatch::send(out, n, config.ground, id, args);
+    let written = effects::dispatch::send(out, n, config.ground, id, args);
     let next = Run {
         arm: arm::after_packet(n, args),
         counts: counts::after_packet(run.counts, n, k),

@@ -1,6 +1,6 @@
 // The tick step.
-use crate::arm;
 use crate::types::Stepped;
+use effects::arm;
 use state::types::Config;
 use state::types::Run;
 ghost use mathlib.Core.Path.{_≡_};

@@ -1,5 +1,5 @@
 -- `inner_fault`: no row, a row that is not enabled, or the response of the row at the place found.
-use mathlib.Core.Path.{_≡_, refl, sym, ap, _∙_}
+use mathlib.Core.Path.{refl, sym, ap, _∙_}
 use Prim.Native.Nat.{_+_, _*_, _<_, _≤_}
 use lib.ListN.{length, getD, set}
 use native.Mathlib.Omega.{arith}
@@ -7,8 +7,8 @@ use borrow.Author.Needs.{needs}
 use Rattle.state.specs.Tables.{FaultRow, tablesOf}
 use Rattle.state.specs.Sized.{Sized, SizedRun}
 use Rattle.state.specs.Columns.{fault-column, route-column}
-use Rattle.steps.specs.FaultStates.{fault}
-use Rattle.steps.specs.AnswerLaws.{routed-dest}
+use Rattle.effects.specs.FaultStates.{fault}
+use Rattle.answers.specs.AnswerLaws.{routed-dest}
 use Rattle.steps.specs.Found.{unknown, known, row-is, state-is, row-acts, args-within, responds}
 use Rattle.steps.specs.FaultStepLaws.{silent-unsent, fault-unknown, fault-silent, fault-sent, fault-output}
 use Rattle.steps.proofs.on_fault.inner_fault.Statement.{statement}

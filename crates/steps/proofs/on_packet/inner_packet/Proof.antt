@@ -1,14 +1,11 @@
 -- `inner_packet`: a rejected packet, or the parts of an accepted packet's step, each by its own function.
-use mathlib.Core.Path.{_≡_, sym, ap, _∙_}
-use mathlib.Core.List.{List, map}
-use Prim.Native.Nat.{_≤_}
+use mathlib.Core.Path.{_≡_, sym, _∙_}
 use native.Mathlib.Omega.{arith}
-use lib.ListN.{length, take}
 use borrow.Author.Needs.{needs}
-use Rattle.packet.specs.Judge.{refusalOf, argumentsOf}
+use Rattle.packet.specs.Judge.{refusalOf}
 use Rattle.packet.specs.Laws.{accepts}
 use Rattle.packet.specs.Parts.{arguments-few}
-use Rattle.state.specs.Tables.{faultId, routed, tablesOf}
+use Rattle.state.specs.Tables.{tablesOf}
 use Rattle.state.specs.Sized.{Sized}
 use Rattle.state.specs.Columns.{fault-column, states-small}
 use Rattle.state.specs.ArrayLaws.{routed-is}

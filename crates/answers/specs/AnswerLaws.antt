@@ -1,0 +1,94 @@
+-- Laws of the answers: each way to one, and what the lent tables must be.
+use mathlib.Core.Path.{_≡_, refl, sym, ap, _∙_}
+use mathlib.Core.Bool.{Bool, true, false, cond}
+use mathlib.Core.List.{List, [], _∷_, map}
+use Prim.Native.Nat.{ℕ, _<_, _≤_}
+use native.Mathlib.Omega.{arith}
+use lib.Dec.{eqb, ltb}
+use lib.ListN.{length, getD, take}
+use borrow.Author.Tests.{eq-eqb, ne-eqb, lt-ltb, le-ltb}
+use Rattle.state.specs.Tables.{Route, FaultRow, routeId, faultId, listed, routeAt}
+use Rattle.state.specs.Rules.{member}
+use Rattle.state.specs.Lookup.{placeIn, Column}
+use Rattle.state.specs.LookupLaws.{is-member, no-member, below-member}
+use Rattle.state.specs.ArrayLaws.{map-listed, column-is}
+use Rattle.effects.specs.FaultStates.{enabled, stateFor}
+use Rattle.answers.specs.Answers.{blocked, ownAnswer, routeAnswer, answerFor, faultAnswer}
+use Rattle.effects.specs.Dispatch.{for10, destOf}
+use Rattle.answers.specs.OwnLaws.{own-not-10}
+use Rattle.effects.specs.RowLaws.{listed-at, dest-at}
+
+-- the arrays of a state that keeps its rules, as they are lent
+pub record Lent (protected : List ℕ) (nprotected : ℕ) (faultids : List ℕ) (nrows : ℕ) (routeids dests : List ℕ) (nroutes : ℕ) : Type 0 where
+  pub protected-ids : Column 32 protected nprotected
+  pub fault-ids : Column 32 faultids nrows
+  pub route-ids : Column 128 routeids nroutes
+  pub dests-long : length dests ≡ 128
+
+-- ---- protection
+
+module _ {protected : List ℕ} {n : ℕ} (c : Column 32 protected n) (id : ℕ) where
+  pub armed-free : false ≡ blocked (take n protected) true id
+  unfolding blocked
+  armed-free = refl
+
+  pub unarmed-blocked : (k : ℕ) → k ≡ placeIn id (take n protected) → ltb k n ≡ blocked (take n protected) false id
+  unfolding blocked
+  unarmed-blocked k e = below-member c id k e
+
+-- ---- routes
+
+module _ {ids : List ℕ} {n : ℕ} (c : Column 128 ids n) (id k : ℕ) (e : k ≡ placeIn id (take n ids)) where
+  pub route-none : n ≤ k → 33 ≡ routeAnswer (take n ids) id
+  unfolding routeAnswer
+  route-none h = simp (no-member c id k e h)
+
+  pub route-found : k < n → 10 ≡ routeAnswer (take n ids) id
+  unfolding routeAnswer
+  route-found h = simp (is-member c id k e h)
+
+  pub route-dest : (dests : List ℕ) → k < n → getD dests k 0 ≡ destOf id (listed (routeAt ids dests) 0 n)
+  route-dest dests h =
+      let rows = listed (routeAt ids dests) 0 n in
+      let are : map routeId rows ≡ take n ids = map-listed routeId (routeAt ids dests) 0 n ∙ column-is ids n (omega arith) in
+      sym (dest-at id rows ∙ rw (are, ← e) (ap (λ (r : Route). r .dest) (listed-at (routeAt ids dests) _ n k h)))
+
+-- a routed id gets 10, and its destination is set
+pub routed-dest : (ids : List ℕ) (id n dest x : ℕ) → member id ids ≡ true → n ≡ routeAnswer ids id → dest ≡ for10 n x → dest ≡ x
+unfolding routeAnswer
+routed-dest ids id n dest x m e d = d ∙ rw (e, m)
+
+-- ---- the answer to an accepted packet
+
+module _ (routed protected faultIds : List ℕ) (armed : Bool) (id k : ℕ) (args : List ℕ) where
+  pub answer-30 : blocked protected armed id ≡ true → 30 ≡ answerFor routed protected faultIds armed id k args
+  unfolding answerFor
+  answer-30 b = simp b
+
+  pub answer-own : blocked protected armed id ≡ false → k < 8 → ownAnswer faultIds k args ≡ answerFor routed protected faultIds armed id k args
+  unfolding answerFor
+  answer-own b h = simp (b, lt-ltb k 8 h)
+
+  pub answer-route : blocked protected armed id ≡ false → 8 ≤ k → routeAnswer routed id ≡ answerFor routed protected faultIds armed id k args
+  unfolding answerFor
+  answer-route b h = simp (b, le-ltb k 8 h)
+
+-- an own command has no destination
+pub own-dest : (faultIds : List ℕ) (k : ℕ) (args : List ℕ) (n x : ℕ) → n ≡ ownAnswer faultIds k args → 0 ≡ for10 n x
+own-dest faultIds k args n x e = rw (e, own-not-10 faultIds k args)
+
+-- ---- a fault
+
+module _ (rows : List FaultRow) (states : List ℕ) (f : ℕ) where
+  pub fault-34 : member f (map faultId rows) ≡ false → 34 ≡ faultAnswer rows states f
+  unfolding faultAnswer
+  fault-34 h = simp h
+
+  module _ (m : member f (map faultId rows) ≡ true) where
+    pub fault-13 : (stateFor f rows states ≡ enabled → ⊥) → 13 ≡ faultAnswer rows states f
+    unfolding faultAnswer
+    fault-13 h = simp (m, ne-eqb _ _ h)
+
+    pub fault-10 : stateFor f rows states ≡ enabled → 10 ≡ faultAnswer rows states f
+    unfolding faultAnswer
+    fault-10 h = simp (m, eq-eqb _ _ h)

@@ -1,0 +1,4 @@
+pub mod Own
+pub mod Answers
+pub mod OwnLaws
+pub mod AnswerLaws
