@@ -1,8 +1,8 @@
 -- From all to each: where records are in order and their tables and start states keep the rules, each record is good behind those
 -- before it. Kinds never fall, so all routes stand before any record that asks for a routed id.
-use mathlib.Core.Path.{_≡_, refl, sym, ap, _∙_}
+use mathlib.Core.Path.{_≡_, refl, ap}
 use mathlib.Core.List.{List, [], _∷_, _++_, map, map-append, append-nil, append-assoc}
-use Prim.Native.Nat.{ℕ, zero, suc, _+_, _≤_, _<_}
+use Prim.Native.Nat.{ℕ, suc, _+_, _≤_, _<_}
 use native.Mathlib.Omega.{arith}
 use lib.ListN.{length, length-append, length-map}
 use borrow.Author.Tests.{ne-eqb}
@@ -10,10 +10,10 @@ use Rattle.state.specs.Tables.{Tables, routeId, faultId, routed}
 use Rattle.state.specs.Rules.{floorFrom, floor}
 use Rattle.state.specs.Keeps.{RouteOk, ProtectedOk, RowOk, Rising, Each, Rules}
 use Rattle.image.specs.Records.{le16, Record}
-use Rattle.image.specs.Image.{ofKind, basicsIn, routeIn, protectedIn, rowIn, startIn, tablesOfRecords, startsOfRecords, lastKind}
+use Rattle.image.specs.Image.{ofKind, routeIn, protectedIn, rowIn, startIn, tablesOfRecords, startsOfRecords, lastKind}
 use Rattle.image.specs.Good.{GoodRecord, Ascending, InOrder, basics-first}
 use Rattle.image.specs.RecordLaws.{ofKind-append, last-snoc}
-use Rattle.image.specs.Outcome.{Order, begins, goes-on, Shaped, Kept, Fine, GoodAfter, AllGood, idsOf, limitOf}
+use Rattle.image.specs.Outcome.{begins, goes-on, GoodAfter, AllGood, idsOf, limitOf}
 use Rattle.image.specs.OutcomeLaws.{by-kind}
 
 -- ---- what stands in the middle of a table
@@ -143,8 +143,7 @@ later-all : (before rs : List Record) → (lastKind before ≡ 0 → ⊥) → (l
 later-all before [] h low m n a g rules starts = tt
 later-all before (r ∷ rs) h low m n a g rules starts =
     let e = last-snoc 0 before r in
-    let p = append-assoc before (r ∷ []) rs in
-    (
+    let p = append-assoc before (r ∷ []) rs in (
       later-good before r rs rules (omega (arith, a .0)) (a .1) h (omega (arith, a .0)) (g .0) starts,
       later-all (before ++ r ∷ []) rs (rw e (λ z. omega (arith, a .0))) (r .kind) (rw e (omega arith)) (omega (arith, a .0)) (a .1) (g .1) (rw p rules) (rw p starts),
     )

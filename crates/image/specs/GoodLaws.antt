@@ -1,24 +1,23 @@
 -- From each to all: records of which each is good behind those before it are in order, and their tables and start states keep
 -- the rules.
-use mathlib.Core.Path.{_≡_, refl, sym, ap, _∙_}
-use mathlib.Core.Bool.{Bool, true, false}
+use mathlib.Core.Path.{_≡_, refl}
 use mathlib.Core.Logic.{_⊎_, inl, inr}
 use mathlib.Core.List.{List, [], _∷_, _++_, map, map-append, append-nil, append-assoc, Memᴰ·append-left, List·Memᴰ}
-use Prim.Native.Nat.{ℕ, zero, suc, _+_, _≤_, _<_}
+use Prim.Native.Nat.{ℕ, suc, _+_, _≤_, _<_}
 use native.Mathlib.Omega.{arith}
 use lib.Dec.{eqb}
 use lib.ListN.{length, length-append, length-map}
-use borrow.Author.Tests.{ne-eqb, eqb-true, eqb-false}
-use Rattle.state.specs.Tables.{Route, FaultRow, Tables, routeId, faultId, routed}
+use borrow.Author.Tests.{eqb-true, eqb-false}
+use Rattle.state.specs.Tables.{FaultRow, Tables, routeId, faultId, routed}
 use Rattle.state.specs.Rules.{floorFrom, floor}
-use Rattle.state.specs.Keeps.{Own, BasicsOk, RouteOk, ProtectedOk, RowOk, Rising, Each, Rules}
+use Rattle.state.specs.Keeps.{Own, RouteOk, ProtectedOk, RowOk, Rising, Each, Rules}
 use Rattle.state.specs.KeepsLaws.{split}
 use Rattle.state.specs.ArrayLaws.{each-map}
 use Rattle.image.specs.Records.{le16, Record}
-use Rattle.image.specs.Image.{ofKind, basicsIn, routeIn, protectedIn, rowIn, startIn, tablesOfRecords, startsOfRecords, lastKind}
+use Rattle.image.specs.Image.{routeIn, protectedIn, rowIn, startIn, tablesOfRecords, startsOfRecords, lastKind}
 use Rattle.image.specs.Good.{GoodRecord, Ascending, InOrder, basics-first}
-use Rattle.image.specs.RecordLaws.{ofKind-append, last-snoc, plusRoute, plusProtected, plusRow, plus-1, plus-2, plus-3, plus-4, starts-4, starts-same}
-use Rattle.image.specs.Outcome.{Order, begins, goes-on, Shaped, Kept, Fine, GoodAfter, AllGood, idsOf, limitOf}
+use Rattle.image.specs.RecordLaws.{last-snoc, plusRoute, plusProtected, plusRow, plus-1, plus-2, plus-3, plus-4, starts-4, starts-same}
+use Rattle.image.specs.Outcome.{Order, begins, goes-on, GoodAfter, AllGood}
 use Rattle.image.specs.OutcomeLaws.{by-kind}
 
 -- ---- a row more at the end of a table

@@ -6,3 +6,5 @@ pub mod Outcome
 pub mod OutcomeLaws
 pub mod GoodLaws
 pub mod GoodEach
+pub mod Loading
+pub mod Theorems

@@ -1,21 +1,21 @@
 -- The computed refusal of a record is the declared one, in both directions: it says what `Outcome` has of it, and no other number
 -- fits.
-use mathlib.Core.Path.{_≡_, refl, sym, ap, _∙_}
+use mathlib.Core.Path.{_≡_, refl, sym, _∙_}
 use mathlib.Core.Bool.{Bool, true, false, cond, not, _&&_, and-false, false≢true}
-use mathlib.Core.List.{List, [], _∷_, _++_, map}
-use Prim.Native.Nat.{ℕ, zero, suc, _+_, _≤_, _<_}
+use mathlib.Core.List.{List}
+use Prim.Native.Nat.{ℕ, zero, suc, _≤_}
 use native.Mathlib.Omega.{arith}
 use lib.Dec.{leb, ltb, eqb}
-use lib.ListN.{length, getD, take, drop, length-take, length-map}
+use lib.ListN.{length, getD, length-take, length-map}
 use borrow.Author.Tests.{le-leb, lt-leb, lt-ltb, le-ltb, eq-eqb, ne-eqb, leb-true, leb-false, ltb-true, ltb-false, eqb-true, eqb-false}
-use Rattle.state.specs.Tables.{Tables, FaultRow, routeId, faultId, routed}
+use Rattle.state.specs.Tables.{Tables, routed}
 use Rattle.state.specs.Rules.{basicsOk, routeOk, startOk, floor}
 use Rattle.state.specs.Test.{protectedPasses, rowPasses}
 use Rattle.state.specs.KeepsLaws.{split, both, basics-kept, basics-keeps, route-kept, route-keeps, protected-kept, protected-keeps, row-kept, row-keeps}
 use Rattle.image.specs.Records.{le16, Record}
-use Rattle.image.specs.Image.{routeIn, rowIn, startIn, tablesOfRecords, check, sized, lastKind, inOrder, rowRefusal, byTables, refusalAfter, recordRefusal}
+use Rattle.image.specs.Image.{rowIn, startIn, tablesOfRecords, check, sized, lastKind, inOrder, rowRefusal, byTables, refusalAfter, recordRefusal}
 use Rattle.image.specs.Good.{BodyFits}
-use Rattle.image.specs.Outcome.{Order, begins, goes-on, BadOrder, first-not-basics, second-basics, falls, Shaped, idsOf, limitOf, Kept, Fine, Verdict, no-kind, past-kinds, missized, out-of-order, not-above, too-many, rule-broken, fine, Outcome, is-cut, is-whole, GoodAfter}
+use Rattle.image.specs.Outcome.{Order, begins, goes-on, BadOrder, first-not-basics, second-basics, falls, Shaped, idsOf, limitOf, Kept, Verdict, no-kind, past-kinds, missized, out-of-order, not-above, too-many, rule-broken, fine, Outcome, is-cut, is-whole, GoodAfter}
 
 -- a check either refuses, where its test fails, or goes on
 by : (P : ℕ → Type 0) (b : Bool) (n next : ℕ) → (b ≡ false → P n) → (b ≡ true → P next) → P (check b n next)
@@ -194,6 +194,7 @@ module _ (before : List Record) (r : Record) where
       whole w (too-many s a m) e = absurd (omega arith)
       whole w (rule-broken s a m k) e = absurd (omega arith)
       whole w (fine f) e = record { whole = w; rest = f }
+
       go : {n : ℕ} → Outcome before r n → n ≡ 0 → GoodAfter before r
       go (is-cut w) e = absurd (omega arith)
       go (is-whole w v) e = whole w v e

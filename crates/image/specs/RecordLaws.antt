@@ -1,14 +1,14 @@
 -- Laws of records and of the tables that they write: the record at a place, the records from a place on, and a record more.
-use mathlib.Core.Path.{_≡_, refl, sym, ap, _∙_}
+use mathlib.Core.Path.{_≡_, refl, ap}
 use mathlib.Core.Bool.{Bool, true, false, cond}
-use mathlib.Core.List.{List, [], _∷_, _++_, map, map-append, append-nil}
+use mathlib.Core.List.{List, [], _∷_, _++_, map-append, append-nil}
 use Prim.Native.Nat.{ℕ, zero, suc, _+_, _-_, _<_, _≤_}
 use native.Mathlib.Omega.{arith}
 use lib.Dec.{eqb}
-use lib.ListN.{length, getD, take, drop, length-map, length-take, length-drop}
+use lib.ListN.{length, take, drop, length-map, length-take, length-drop}
 use borrow.Author.Tests.{le-leb, lt-leb, ne-eqb}
 use Rattle.state.specs.Tables.{Tables}
-use Rattle.image.specs.Records.{le16, Record, cut, recordAt, andThen, recordsFrom, recordsOf}
+use Rattle.image.specs.Records.{le16, Record, cut, recordAt, andThen, recordsFrom}
 use Rattle.image.specs.Image.{ofKind, lastOr, routeIn, protectedIn, rowIn, startIn, tablesOfRecords, startsOfRecords, lastFrom}
 
 -- ---- the record at a place
