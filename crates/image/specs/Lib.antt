@@ -4,6 +4,9 @@ pub mod Good
 pub mod RecordLaws
 pub mod Outcome
 pub mod OutcomeLaws
+pub mod Parts
+pub mod PartLaws
+pub mod Seek
 pub mod GoodLaws
 pub mod GoodEach
 pub mod Loading

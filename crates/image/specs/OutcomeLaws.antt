@@ -144,11 +144,14 @@ module _ (last : ℕ) (t : Tables) (kind : ℕ) (b : List ℕ) where
       (λ fits. by (Verdict last t kind b) (inOrder last kind) 4 _ (λ e. out-of-order low high (sized-fits b kind fits) (not-in-order e))
       (λ order. by-rows (record { kind-low = low; kind-high = high; fits = sized-fits b kind fits; order = in-order order }))))
 
-  past-shape : Shaped last kind b → refusalAfter last t kind b ≡ rowRefusal (limitOf kind) (floor (idsOf t kind)) (length (idsOf t kind)) (le16 b 0) (ruleOk t b kind)
+  -- a record whose kind, size and order are right is judged by the tables
+  pub shaped-on : Shaped last kind b → refusalAfter last t kind b ≡ byTables t kind b
   unfolding refusalAfter
-  past-shape s =
+  shaped-on s =
       simp (le-leb 1 kind (s .kind-low), le-leb kind 4 (s .kind-high), fits-sized b kind (s .kind-low) (s .kind-high) (s .fits), order-is (s .order))
-      (by-tables t b kind (s .kind-low) (s .kind-high))
+
+  past-shape : Shaped last kind b → refusalAfter last t kind b ≡ rowRefusal (limitOf kind) (floor (idsOf t kind)) (length (idsOf t kind)) (le16 b 0) (ruleOk t b kind)
+  past-shape s = shaped-on s ∙ by-tables t b kind (s .kind-low) (s .kind-high)
 
 module _ {last : ℕ} {t : Tables} {kind : ℕ} {b : List ℕ} where
   -- no other number fits a whole record
