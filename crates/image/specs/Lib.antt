@@ -11,3 +11,6 @@ pub mod GoodLaws
 pub mod GoodEach
 pub mod Loading
 pub mod Theorems
+pub mod Stored
+pub mod Held
+pub mod Walk

@@ -3,19 +3,19 @@
 use mathlib.Core.Path.{_≡_, refl, sym, _∙_}
 use mathlib.Core.Bool.{Bool, true, false, cond, not, _&&_, and-false, false≢true}
 use mathlib.Core.List.{List}
-use Prim.Native.Nat.{ℕ, zero, suc, _≤_}
+use Prim.Native.Nat.{ℕ, zero, suc, _≤_, _<_}
 use native.Mathlib.Omega.{arith}
 use lib.Dec.{leb, ltb, eqb}
 use lib.ListN.{length, getD, length-take, length-map}
 use borrow.Author.Tests.{le-leb, lt-leb, lt-ltb, le-ltb, eq-eqb, ne-eqb, leb-true, leb-false, ltb-true, ltb-false, eqb-true, eqb-false}
-use Rattle.state.specs.Tables.{Tables, routed}
+use Rattle.state.specs.Tables.{Tables, routeId, faultId, routed}
 use Rattle.state.specs.Rules.{basicsOk, routeOk, startOk, floor}
 use Rattle.state.specs.Test.{protectedPasses, rowPasses}
 use Rattle.state.specs.KeepsLaws.{split, both, basics-kept, basics-keeps, route-kept, route-keeps, protected-kept, protected-keeps, row-kept, row-keeps}
 use Rattle.image.specs.Records.{le16, Record}
 use Rattle.image.specs.Image.{rowIn, startIn, tablesOfRecords, check, sized, lastKind, inOrder, rowRefusal, byTables, refusalAfter, recordRefusal}
 use Rattle.image.specs.Good.{BodyFits}
-use Rattle.image.specs.Outcome.{Order, begins, goes-on, BadOrder, first-not-basics, second-basics, falls, Shaped, idsOf, limitOf, Kept, Verdict, no-kind, past-kinds, missized, out-of-order, not-above, too-many, rule-broken, fine, Outcome, is-cut, is-whole, GoodAfter}
+use Rattle.image.specs.Outcome.{Order, begins, goes-on, BadOrder, first-not-basics, second-basics, falls, Shaped, idsOf, limitOf, Kept, Fine, Verdict, no-kind, past-kinds, missized, out-of-order, not-above, too-many, rule-broken, fine, Outcome, is-cut, is-whole, GoodAfter}
 
 -- a check either refuses, where its test fails, or goes on
 by : (P : ℕ → Type 0) (b : Bool) (n next : ℕ) → (b ≡ false → P n) → (b ≡ true → P next) → P (check b n next)
@@ -167,6 +167,17 @@ module _ {last : ℕ} {t : Tables} {kind : ℕ} {b : List ℕ} where
   verdict-only (fine f) =
       let s = f .shaped in
       sym (past-shape last t kind b s ∙ simp (le-leb _ _ (f .above), lt-ltb _ _ (f .room), kept-rule t b kind (s .kind-low) (s .kind-high) (f .kept)))
+
+-- the room of a row that nothing refuses, by its kind
+module _ {last : ℕ} {t : Tables} {kind : ℕ} {b : List ℕ} (f : Fine last t kind b) where
+  pub room-2 : kind ≡ 2 → length (t .routes) < 128
+  room-2 k = rw (← length-map (t .routes) routeId) (rw k at (f .room))
+
+  pub room-3 : kind ≡ 3 → length (t .protected) < 32
+  room-3 k = rw k at (f .room)
+
+  pub room-4 : kind ≡ 4 → length (t .rows) < 32
+  room-4 k = rw (← length-map (t .rows) faultId) (rw k at (f .room))
 
 -- ---- a record behind those before it
 

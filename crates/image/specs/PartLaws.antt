@@ -11,12 +11,17 @@ use borrow.Author.Tests.{le-leb, lt-leb, ne-eqb, not-true, not-false}
 use Rattle.state.specs.Tables.{Tables, routeId, faultId}
 use Rattle.state.specs.Rules.{floor, routeOk, startOk}
 use Rattle.state.specs.Test.{protectedPasses, rowPasses}
-use Rattle.image.specs.Records.{le16}
+use Rattle.image.specs.Records.{le16, cut, recordAt}
 use Rattle.image.specs.Image.{sized, startIn, rowIn, rowRefusal, basicsRefusal, refusalAfter}
 use Rattle.image.specs.Good.{BodyFits}
 use Rattle.image.specs.Outcome.{Shaped, Verdict}
 use Rattle.image.specs.OutcomeLaws.{fits-sized, sized-fits, verdict-only, shaped-on}
-use Rattle.image.specs.Parts.{Holds, ShapeSays}
+use Rattle.image.specs.Parts.{Holds, EndSays, ShapeSays}
+
+-- ---- the end of a record
+
+pub cut-end : {bs : List ℕ} {place : ℕ} → recordAt bs place ≡ cut place → EndSays bs place 0
+cut-end e = record { is-cut = λ z. e; is-whole = λ h. absurd (h refl) }
 
 -- ---- the size
 

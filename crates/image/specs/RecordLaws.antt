@@ -21,27 +21,29 @@ pub cut-body : (bs : List ℕ) (place size : ℕ) → (size ≡ le16 bs place) �
 unfolding recordAt
 cut-body bs place size (e, h, l) = simp (le-leb (place + 4) (length bs) h, lt-leb (place + 4 + le16 bs place) (length bs) (omega arith))
 
--- m is the size too: the code takes the body from its start up to its end
-pub record Whole (bs : List ℕ) (place size kind m : ℕ) : Type 0 where
-  pub size-is : size ≡ le16 bs place
-  pub kind-is : kind ≡ le16 bs (place + 2)
-  pub inside : place + 4 + size ≤ length bs
-  pub taken : m ≡ size
+-- the bytes of the body, as the code takes them
+abbrev pub bodyAt : List ℕ → ℕ → ℕ → List ℕ
+bodyAt bs place end = take (end - (place + 4)) (drop (place + 4) bs)
 
-module _ {bs : List ℕ} {place size kind m : ℕ} (w : Whole bs place size kind m) where
-  pub whole-at : recordAt bs place ≡ record { place = place; whole = true; kind = kind; body = take m (drop (place + 4) bs) }
+pub record Whole (bs : List ℕ) (place kind end : ℕ) : Type 0 where
+  pub kind-is : kind ≡ le16 bs (place + 2)
+  pub end-is : end ≡ place + 4 + le16 bs place
+  pub inside : end ≤ length bs
+
+module _ {bs : List ℕ} {place kind end : ℕ} (w : Whole bs place kind end) where
+  pub whole-at : recordAt bs place ≡ record { place = place; whole = true; kind = kind; body = bodyAt bs place end }
   unfolding recordAt
   whole-at =
+      let m : end - (place + 4) ≡ le16 bs place = omega (arith, w .end-is) in
       simp (
-        le-leb (place + 4) (length bs) (omega (arith, w .inside)),
-        le-leb (place + 4 + le16 bs place) (length bs) (omega (arith, w .inside, w .size-is)),
+        le-leb (place + 4) (length bs) (omega (arith, w .inside, w .end-is)),
+        le-leb (place + 4 + le16 bs place) (length bs) (omega (arith, w .inside, w .end-is)),
         w .kind-is,
-        w .taken,
-        w .size-is,
+        m,
       )
 
-  pub body-size : length (take m (drop (place + 4) bs)) ≡ size
-  body-size = simp (length-take, length-drop) (omega (arith, w .inside, w .taken))
+  pub body-ends : place + 4 + length (bodyAt bs place end) ≡ end
+  body-ends = simp (length-take, length-drop) (omega (arith, w .inside, w .end-is))
 
 -- ---- the records from a place on
 

@@ -10,7 +10,7 @@ ghost use Rattle.state.specs.Rules.{member, floor, routeOk, rowOk, startOk};
 ghost use Rattle.state.specs.Test.{protectedPasses, rowPasses};
 ghost use Rattle.image.specs.Records.{le16};
 ghost use Rattle.image.specs.Image.{sized, startIn, rowIn, rowRefusal, basicsRefusal, refusalAfter};
-ghost use Rattle.image.specs.Parts.{Column, Holds, ShapeSays};
+ghost use Rattle.image.specs.Parts.{Column, Holds, EndSays, ShapeSays};
 use state::rules;
 use wire::word;
 
@@ -21,6 +21,22 @@ pub fn word_at(bytes: &[u8], at: usize) -> u16
     ensures { λ r. ⌜ r ≡ le16 (now (bytes .entry)) at ⌝ }
 {
     word::little(bytes[at], bytes[at + 1])
+}
+
+// Where the record at a place ends; 0 where its header or body passes the end of the image.
+// internal: for the loader, whose place is within the image.
+pub fn end_of(image: &[u8], at: usize) -> usize
+    requires { ⌜ at ≤ length (now image) ⌝ }
+    ensures { λ r. ⌜ EndSays (now (image .entry)) at r ⌝ }
+{
+    if image.len() - at < 4 {
+        return 0;
+    }
+    let size = word_at(image, at) as usize;
+    if image.len() - at - 4 < size {
+        return 0;
+    }
+    at + 4 + size
 }
 
 // The body has the length of its kind, and n is at most 16. A kind that is none of 1, 2 and 3 is taken for 4.
