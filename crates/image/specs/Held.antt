@@ -42,8 +42,7 @@ module _ {rs : List Record} {c : Config} {states : List ℕ} (h : Held rs c stat
   columns =
       let s = arrays-sized t (h .few) in
       let f = h .few in
-      rw (h .tables-are)
-      (
+      rw (h .tables-are) (
         record { long = s .routeids-128; within = f .few-routes },
         record { long = s .protected-32; within = f .few-protected },
         record { long = s .faultids-32; within = f .few-rows },

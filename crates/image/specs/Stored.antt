@@ -6,8 +6,7 @@ use native.Mathlib.Omega.{arith}
 use lib.ListN.{length, getD, take, drop, set, length-append, length-map, length-take, length-drop}
 use Rattle.wire.specs.Put.{putAt}
 use Rattle.state.specs.declared.types.Config.{Config}
-use Rattle.state.specs.Tables.{Route, FaultRow, Tables, routeId, faultId, argsOf, padded, flat, configOf}
-use Rattle.state.specs.Keeps.{Each}
+use Rattle.state.specs.Tables.{Route, FaultRow, Tables, routeId, faultId, argsOf, padded, configOf}
 use Rattle.state.specs.KeepsLaws.{Few}
 use Rattle.state.specs.ArrayLaws.{padded-more, short-args, args-more}
 use Rattle.image.specs.Records.{le16}
@@ -123,8 +122,8 @@ module _ (t : Tables) (b : List ℕ) where
       let rows = t .rows in
       let short : length (rowIn b .args) ≤ 16 = omega (arith, args-count b fits) in
       let counts : set (padded 32 (map (λ (r : FaultRow). length (r .args)) rows)) (length rows) (getD b 6 0) ≡ padded 32 (map (λ (r : FaultRow). length (r .args)) (rows ++ rowIn b ∷ [])) =
-          ap (set (padded 32 (map (λ (r : FaultRow). length (r .args)) rows)) (length rows)) (sym (args-count b fits))
-          ∙ more (λ (r : FaultRow). length (r .args)) 32 rows (rowIn b) l in
+      ap (set (padded 32 (map (λ (r : FaultRow). length (r .args)) rows)) (length rows)) (sym (args-count b fits))
+      ∙ more (λ (r : FaultRow). length (r .args)) 32 rows (rowIn b) l in
       rw (
         more faultId 32 rows (rowIn b) l,
         more (λ (r : FaultRow). r .response) 32 rows (rowIn b) l,
