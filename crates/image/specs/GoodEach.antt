@@ -91,7 +91,9 @@ module _ (before : List Record) (r : Record) (rs : List Record) where
 
     protected-ok : r .kind ≡ 3 → ProtectedOk (t .base) (routed t) (protectedIn (r .body))
     protected-ok k =
-        let p = each-middle (ProtectedOk (tablesOfRecords all .base) (routed (tablesOfRecords all))) (t .protected) _ _ (rw (protected-split k) at (rules .protected-ok)) in
+        let p =
+        each-middle (ProtectedOk (tablesOfRecords all .base) (routed (tablesOfRecords all))) (t .protected) _ _
+        (rw (protected-split k) at (rules .protected-ok)) in
         rw (base-is, routes-are (omega arith)) at p
 
     row-above : r .kind ≡ 4 → floor (map faultId (t .rows)) ≤ le16 (r .body) 0
@@ -145,7 +147,8 @@ later-all before (r ∷ rs) h low m n a g rules starts =
     let e = last-snoc 0 before r in
     let p = append-assoc before (r ∷ []) rs in (
       later-good before r rs rules (omega (arith, a .0)) (a .1) h (omega (arith, a .0)) (g .0) starts,
-      later-all (before ++ r ∷ []) rs (rw e (λ z. omega (arith, a .0))) (r .kind) (rw e (omega arith)) (omega (arith, a .0)) (a .1) (g .1) (rw p rules) (rw p starts),
+      later-all (before ++ r ∷ []) rs (rw e (λ z. omega (arith, a .0))) (r .kind) (rw e (omega arith)) (omega (arith, a .0)) (a .1) (g .1)
+          (rw p rules) (rw p starts),
     )
 
 first-good : (r : Record) (rs : List Record) → r .kind ≡ 1 → Ascending 2 rs → GoodRecord r → Rules (tablesOfRecords (r ∷ rs)) → GoodAfter [] r

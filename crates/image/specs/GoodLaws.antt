@@ -146,7 +146,8 @@ first-rules r g =
       rows-ok = tt;
     })
 
-next-rules : (before : List Record) (r : Record) → (lastKind before ≡ 0 → ⊥) → Rules (tablesOfRecords before) → GoodAfter before r → Rules (tablesOfRecords (before ++ r ∷ []))
+next-rules : (before : List Record) (r : Record) → (lastKind before ≡ 0 → ⊥) → Rules (tablesOfRecords before) → GoodAfter before r
+    → Rules (tablesOfRecords (before ++ r ∷ []))
 next-rules before r h rules g =
     let f = g .rest in
     let b = r .body in

@@ -3,20 +3,19 @@ use mathlib.Core.Path.{_≡_, refl}
 use mathlib.Core.List.{List, [], _∷_, _++_, map}
 use Prim.Native.Nat.{ℕ, _+_, _-_, _*_, _<_, _≤_}
 use native.Mathlib.Omega.{arith}
-use lib.ListN.{length, getD, take, drop, set, replicate, length-append, length-map}
+use lib.ListN.{length, getD, take, drop, set, replicate, length-map}
 use Rattle.wire.specs.Put.{putAt}
 use Rattle.state.specs.declared.types.Config.{Config}
 use Rattle.state.specs.Tables.{Tables, routeId, faultId, empty, padded, configOf}
 use Rattle.state.specs.KeepsLaws.{Few}
 use Rattle.state.specs.ArrayLaws.{padded-take, padded-more, arrays-sized}
 use Rattle.image.specs.Records.{le16, Record}
-use Rattle.image.specs.Image.{rowIn, startIn, tablesOfRecords, startsOfRecords}
+use Rattle.image.specs.Image.{startIn, tablesOfRecords, startsOfRecords}
 use Rattle.image.specs.RecordLaws.{plus-1, plus-2, plus-3, plus-4, starts-4, starts-same, starts-count}
 use Rattle.image.specs.Outcome.{GoodAfter}
 use Rattle.image.specs.OutcomeLaws.{room-2, room-3, room-4}
-use Rattle.image.specs.GoodLaws.{each-snoc}
 use Rattle.image.specs.Parts.{Column, Holds}
-use Rattle.image.specs.Stored.{withBasics, withRoute, withProtected, withRow, stored-1, stored-2, stored-3, stored-4, args-count}
+use Rattle.image.specs.Stored.{withBasics, withRoute, withProtected, withRow, stored-1, stored-2, stored-3, stored-4, few-1, few-2, few-3, few-4}
 
 pub record Held (rs : List Record) (c : Config) (states : List ℕ) : Type 0 where
   pub tables-are : c ≡ configOf (tablesOfRecords rs)
@@ -90,7 +89,7 @@ module _ {rs : List Record} {c : Config} {states : List ℕ} (h : Held rs c stat
         record {
           tables-are = rw (h .tables-are, e, f, i, plus-1 rs r k) (stored-1 t b);
           starts-are = rw (starts-same rs r (λ z. omega arith)) (h .starts-are);
-          few = rw (plus-1 rs r k) (record { few-routes = h .few .few-routes; few-protected = h .few .few-protected; few-rows = h .few .few-rows; few-args = h .few .few-args });
+          few = rw (plus-1 rs r k) (few-1 (h .few) b);
         }
 
     pub held-2 : r .kind ≡ 2 → {id : ℕ} → id ≡ le16 b 0 → Held (rs ++ r ∷ []) (withRoute c id (getD b 2 0)) states
@@ -99,7 +98,7 @@ module _ {rs : List Record} {c : Config} {states : List ℕ} (h : Held rs c stat
         record {
           tables-are = rw (h .tables-are, e, plus-2 rs r k) (stored-2 t b l);
           starts-are = rw (starts-same rs r (λ z. omega arith)) (h .starts-are);
-          few = rw (plus-2 rs r k) (record { few-routes = simp length-append (omega arith); few-protected = h .few .few-protected; few-rows = h .few .few-rows; few-args = h .few .few-args });
+          few = rw (plus-2 rs r k) (few-2 (h .few) b l);
         }
 
     pub held-3 : r .kind ≡ 3 → {id : ℕ} → id ≡ le16 b 0 → Held (rs ++ r ∷ []) (withProtected c id) states
@@ -108,23 +107,19 @@ module _ {rs : List Record} {c : Config} {states : List ℕ} (h : Held rs c stat
         record {
           tables-are = rw (h .tables-are, e, plus-3 rs r k) (stored-3 t b l);
           starts-are = rw (starts-same rs r (λ z. omega arith)) (h .starts-are);
-          few = rw (plus-3 rs r k) (record { few-routes = h .few .few-routes; few-protected = simp length-append (omega arith); few-rows = h .few .few-rows; few-args = h .few .few-args });
+          few = rw (plus-3 rs r k) (few-3 (h .few) b l);
         }
 
-    pub held-4 : r .kind ≡ 4 → {id response : ℕ} {args : List ℕ} → (id ≡ le16 b 0) × (response ≡ le16 b 2) × (args ≡ putAt (c .args) (c .nrows * 16) (take (length b - 7) (drop 7 b)))
+    pub held-4 : r .kind ≡ 4 → {id response : ℕ} {args : List ℕ}
+        → (id ≡ le16 b 0) × (response ≡ le16 b 2) × (args ≡ putAt (c .args) (c .nrows * 16) (take (length b - 7) (drop 7 b)))
         → Held (rs ++ r ∷ []) (withRow c id response (getD b 5 0) (getD b 6 0) args) (set states (c .nrows) (getD b 4 0))
     held-4 k (e, f, i) =
         let l = room-4 (g .rest) k in
-        let fits = g .rest .shaped .fits in
+        let fits : (length b ≡ 7 + getD b 6 0) × (getD b 6 0 ≤ 16) = (g .rest .shaped .fits .row-7 k, g .rest .shaped .fits .few-args k) in
         record {
-          tables-are = rw (e, f, i, h .tables-are, plus-4 rs r k) (stored-4 t b (fits .row-7 k, fits .few-args k) (h .few) l);
-          starts-are = rw (h .tables-are, h .starts-are, starts-4 rs r k) (padded-more 32 (startsOfRecords rs) (length (t .rows)) (startIn b) (starts-count rs) l);
-          few =
-              rw (plus-4 rs r k)
-              (record {
-                few-routes = h .few .few-routes;
-                few-protected = h .few .few-protected;
-                few-rows = simp length-append (omega arith);
-                few-args = each-snoc (λ a. length (a .args) ≤ 16) (t .rows) (rowIn b) (h .few .few-args) (omega (arith, args-count b (fits .row-7 k), fits .few-args k));
-              });
+          tables-are = rw (e, f, i, h .tables-are, plus-4 rs r k) (stored-4 t b fits (h .few) l);
+          starts-are =
+              rw (h .tables-are, h .starts-are, starts-4 rs r k)
+              (padded-more 32 (startsOfRecords rs) (length (t .rows)) (startIn b) (starts-count rs) l);
+          few = rw (plus-4 rs r k) (few-4 (h .few) b fits l);
         }

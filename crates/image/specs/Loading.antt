@@ -80,8 +80,8 @@ all-pass : (before rs : List Record) → AllGood before rs → loadAfter before 
 all-pass before [] a = rw (append-nil before)
 all-pass before (r ∷ rs) a = simp (good-zero before r (a .0)) (all-pass (before ++ r ∷ []) rs (a .1) ∙ rw (append-assoc before (r ∷ []) rs))
 
-first-fails : (before good : List Record) (bad : Record) (rest : List Record) (n : ℕ) → AllGood before good → n ≡ recordRefusal (before ++ good) bad → (n ≡ 0 → ⊥)
-    → loadAfter before (good ++ bad ∷ rest) ≡ refused n (bad .place)
+first-fails : (before good : List Record) (bad : Record) (rest : List Record) (n : ℕ)
+    → AllGood before good → n ≡ recordRefusal (before ++ good) bad → (n ≡ 0 → ⊥) → loadAfter before (good ++ bad ∷ rest) ≡ refused n (bad .place)
 first-fails before [] bad rest n a e h =
     let q : n ≡ recordRefusal before bad = rw (append-nil before) at e in
     rw (← q) (simp (ne-eqb _ _ h))
@@ -145,4 +145,6 @@ only {image} (nothing z e) = e ∙ sym (simp (eq-eqb _ _ z))
 only {image} (stops f e) =
     e
     ∙ sym (simp (ne-eqb (length image) 0 (λ z. first-some f (no-records image z)))
-    (rw (f .are) (first-fails [] (f .good) (f .bad) (f .rest) _ (f .good-before) (outcome-only (f .good) (f .bad) (f .refused-as)) (f .not-zero) ∙ rw (f .begins-at))))
+    (rw (f .are)
+    (first-fails [] (f .good) (f .bad) (f .rest) _ (f .good-before) (outcome-only (f .good) (f .bad) (f .refused-as)) (f .not-zero)
+    ∙ rw (f .begins-at))))

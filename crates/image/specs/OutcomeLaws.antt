@@ -37,7 +37,10 @@ module _ (b : List ℕ) where
   pub fits-sized : (kind : ℕ) → 1 ≤ kind → kind ≤ 4 → BodyFits kind b → sized kind b ≡ true
   unfolding sized
   fits-sized =
-      by-kind (λ k. BodyFits k b → sized k b ≡ true) (λ f. eq-eqb _ _ (f .basics-6 refl)) (λ f. eq-eqb _ _ (f .route-3 refl)) (λ f. eq-eqb _ _ (f .protected-2 refl))
+      by-kind (λ k. BodyFits k b → sized k b ≡ true)
+      (λ f. eq-eqb _ _ (f .basics-6 refl))
+      (λ f. eq-eqb _ _ (f .route-3 refl))
+      (λ f. eq-eqb _ _ (f .protected-2 refl))
       (λ f. simp (le-leb _ _ (f .few-args refl), eq-eqb _ _ (f .row-7 refl)))
 
   pub sized-fits : (kind : ℕ) → sized kind b ≡ true → BodyFits kind b
@@ -93,7 +96,8 @@ module _ (t : Tables) (b : List ℕ) where
       (startOk (startIn b) && rowPasses (routed t) (rowIn b))))
 
   -- one way to say what refuses by the tables, for all four kinds
-  by-tables : (kind : ℕ) → 1 ≤ kind → kind ≤ 4 → byTables t kind b ≡ rowRefusal (limitOf kind) (floor (idsOf t kind)) (length (idsOf t kind)) (le16 b 0) (ruleOk kind)
+  by-tables : (kind : ℕ) → 1 ≤ kind → kind ≤ 4
+      → byTables t kind b ≡ rowRefusal (limitOf kind) (floor (idsOf t kind)) (length (idsOf t kind)) (le16 b 0) (ruleOk kind)
   unfolding rowRefusal
   by-tables =
       by-kind (λ kind. byTables t kind b ≡ rowRefusal (limitOf kind) (floor (idsOf t kind)) (length (idsOf t kind)) (le16 b 0) (ruleOk kind))
@@ -102,7 +106,10 @@ module _ (t : Tables) (b : List ℕ) where
   kept-rule : (kind : ℕ) → 1 ≤ kind → kind ≤ 4 → Kept t kind b → ruleOk kind ≡ true
   unfolding startOk
   kept-rule =
-      by-kind (λ kind. Kept t kind b → ruleOk kind ≡ true) (λ k. basics-kept (k .basics-ok refl)) (λ k. route-kept (k .route-ok refl)) (λ k. protected-kept (k .protected-ok refl))
+      by-kind (λ kind. Kept t kind b → ruleOk kind ≡ true)
+      (λ k. basics-kept (k .basics-ok refl))
+      (λ k. route-kept (k .route-ok refl))
+      (λ k. protected-kept (k .protected-ok refl))
       (λ k. simp (le-leb _ _ (k .start-0-1 refl), row-kept (k .row-ok refl)))
 
   rule-kept : (kind : ℕ) → BodyFits kind b → ruleOk kind ≡ true → Kept t kind b
@@ -150,7 +157,8 @@ module _ (last : ℕ) (t : Tables) (kind : ℕ) (b : List ℕ) where
   shaped-on s =
       simp (le-leb 1 kind (s .kind-low), le-leb kind 4 (s .kind-high), fits-sized b kind (s .kind-low) (s .kind-high) (s .fits), order-is (s .order))
 
-  past-shape : Shaped last kind b → refusalAfter last t kind b ≡ rowRefusal (limitOf kind) (floor (idsOf t kind)) (length (idsOf t kind)) (le16 b 0) (ruleOk t b kind)
+  past-shape : Shaped last kind b
+      → refusalAfter last t kind b ≡ rowRefusal (limitOf kind) (floor (idsOf t kind)) (length (idsOf t kind)) (le16 b 0) (ruleOk t b kind)
   past-shape s = shaped-on s ∙ by-tables t b kind (s .kind-low) (s .kind-high)
 
 module _ {last : ℕ} {t : Tables} {kind : ℕ} {b : List ℕ} where

@@ -75,17 +75,20 @@ module _ {last kind : ℕ} {b : List ℕ} (s : Shaped last kind b) {r : ℕ} whe
   by-basics t k e = e ∙ sym (shaped-on last t kind b s ∙ rw k)
 
   module _ {t : Tables} {base : ℕ} {ids protected faults : List ℕ} (h : Holds t base ids protected faults) {n : ℕ} where
-    pub by-route : kind ≡ 2 → length ids ≡ n → r ≡ rowRefusal 128 (floor ids) n (le16 b 0) (routeOk base (le16 b 0) (getD b 2 0)) → r ≡ refusalAfter last t kind b
+    pub by-route : kind ≡ 2 → length ids ≡ n
+        → r ≡ rowRefusal 128 (floor ids) n (le16 b 0) (routeOk base (le16 b 0) (getD b 2 0)) → r ≡ refusalAfter last t kind b
     by-route k l e =
         let m : length (t .routes) ≡ n = sym (length-map (t .routes) routeId) ∙ ap length (sym (h .routes-are)) ∙ l in
         e ∙ rw (h .routes-are, h .base-is) (sym (shaped-on last t kind b s ∙ rw (k, m)))
 
-    pub by-protected : kind ≡ 3 → length protected ≡ n → r ≡ rowRefusal 32 (floor protected) n (le16 b 0) (protectedPasses base ids (le16 b 0)) → r ≡ refusalAfter last t kind b
+    pub by-protected : kind ≡ 3 → length protected ≡ n
+        → r ≡ rowRefusal 32 (floor protected) n (le16 b 0) (protectedPasses base ids (le16 b 0)) → r ≡ refusalAfter last t kind b
     by-protected k l e =
         let m : length (t .protected) ≡ n = ap length (sym (h .protected-are)) ∙ l in
         e ∙ rw (h .protected-are, h .routes-are, h .base-is) (sym (shaped-on last t kind b s ∙ rw (k, m)))
 
-    pub by-fault-row : kind ≡ 4 → length faults ≡ n → r ≡ rowRefusal 32 (floor faults) n (le16 b 0) (startOk (startIn b) && rowPasses ids (rowIn b)) → r ≡ refusalAfter last t kind b
+    pub by-fault-row : kind ≡ 4 → length faults ≡ n
+        → r ≡ rowRefusal 32 (floor faults) n (le16 b 0) (startOk (startIn b) && rowPasses ids (rowIn b)) → r ≡ refusalAfter last t kind b
     by-fault-row k l e =
         let m : length (t .rows) ≡ n = sym (length-map (t .rows) faultId) ∙ ap length (sym (h .faults-are)) ∙ l in
         e ∙ rw (h .faults-are, h .routes-are) (sym (shaped-on last t kind b s ∙ rw (k, m)))

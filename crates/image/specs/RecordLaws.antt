@@ -17,7 +17,8 @@ pub cut-head : (bs : List ℕ) (place : ℕ) → length bs < place + 4 → recor
 unfolding recordAt
 cut-head bs place h = simp (lt-leb (place + 4) (length bs) h)
 
-pub cut-body : (bs : List ℕ) (place size : ℕ) → (size ≡ le16 bs place) × (place + 4 ≤ length bs) × (length bs < place + 4 + size) → recordAt bs place ≡ cut place
+pub cut-body : (bs : List ℕ) (place size : ℕ)
+    → (size ≡ le16 bs place) × (place + 4 ≤ length bs) × (length bs < place + 4 + size) → recordAt bs place ≡ cut place
 unfolding recordAt
 cut-body bs place size (e, h, l) = simp (le-leb (place + 4) (length bs) h, lt-leb (place + 4 + le16 bs place) (length bs) (omega arith))
 
@@ -47,7 +48,8 @@ module _ {bs : List ℕ} {place kind end : ℕ} (w : Whole bs place kind end) wh
 
 -- ---- the records from a place on
 
-pub one-from : (f : ℕ) (bs : List ℕ) (place : ℕ) → length bs ≤ f + place → place < length bs → recordsFrom f bs place ≡ andThen (recordsFrom (f - 1) bs) (recordAt bs place)
+pub one-from : (f : ℕ) (bs : List ℕ) (place : ℕ) → length bs ≤ f + place → place < length bs
+    → recordsFrom f bs place ≡ andThen (recordsFrom (f - 1) bs) (recordAt bs place)
 one-from zero bs place e l = absurd (omega arith)
 one-from (suc f) bs place e l = let k : suc f - 1 ≡ f = omega arith in rw k (simp (lt-leb (length bs) place l))
 

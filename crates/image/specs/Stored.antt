@@ -11,6 +11,7 @@ use Rattle.state.specs.KeepsLaws.{Few}
 use Rattle.state.specs.ArrayLaws.{padded-more, short-args, args-more}
 use Rattle.image.specs.Records.{le16}
 use Rattle.image.specs.Image.{routeIn, rowIn}
+use Rattle.image.specs.GoodLaws.{each-snoc}
 use Rattle.image.specs.RecordLaws.{plusBasics, plusRoute, plusProtected, plusRow}
 
 -- ---- what the code does to the arrays
@@ -93,7 +94,8 @@ withRow c id response latching count args =
 
 -- ---- which is what a record does to the tables
 
-more : {A : Type 0} (f : A → ℕ) (limit : ℕ) (rows : List A) (row : A) → length rows < limit → set (padded limit (map f rows)) (length rows) (f row) ≡ padded limit (map f (rows ++ row ∷ []))
+more : {A : Type 0} (f : A → ℕ) (limit : ℕ) (rows : List A) (row : A) → length rows < limit
+    → set (padded limit (map f rows)) (length rows) (f row) ≡ padded limit (map f (rows ++ row ∷ []))
 more f limit rows row l = padded-more limit (map f rows) (length rows) (f row) (length-map rows f) l ∙ rw (map-append f rows)
 
 -- the arguments are the rest of the body
@@ -101,7 +103,7 @@ module _ (b : List ℕ) (fits : length b ≡ 7 + getD b 6 0) where
   args-are : take (length b - 7) (drop 7 b) ≡ rowIn b .args
   args-are = let n : length b - 7 ≡ getD b 6 0 = omega arith in rw n
 
-  pub args-count : length (rowIn b .args) ≡ getD b 6 0
+  args-count : length (rowIn b .args) ≡ getD b 6 0
   args-count = simp (length-take, length-drop) (omega arith)
 
 module _ (t : Tables) (b : List ℕ) where
@@ -133,3 +135,36 @@ module _ (t : Tables) (b : List ℕ) where
         args-more (map argsOf rows) (rowIn b .args) (length rows) (short-args rows (f .few-args)) short (length-map rows argsOf) l,
       )
       (simp (length-append, map-append))
+
+-- ---- and the tables still fit the arrays
+
+module _ {t : Tables} (f : Few t) (b : List ℕ) where
+  pub few-1 : Few (plusBasics t b)
+  few-1 = record { few-routes = f .few-routes; few-protected = f .few-protected; few-rows = f .few-rows; few-args = f .few-args }
+
+  pub few-2 : length (t .routes) < 128 → Few (plusRoute t b)
+  few-2 l =
+      record {
+        few-routes = simp length-append (omega arith);
+        few-protected = f .few-protected;
+        few-rows = f .few-rows;
+        few-args = f .few-args;
+      }
+
+  pub few-3 : length (t .protected) < 32 → Few (plusProtected t b)
+  few-3 l =
+      record {
+        few-routes = f .few-routes;
+        few-protected = simp length-append (omega arith);
+        few-rows = f .few-rows;
+        few-args = f .few-args;
+      }
+
+  pub few-4 : (length b ≡ 7 + getD b 6 0) × (getD b 6 0 ≤ 16) → length (t .rows) < 32 → Few (plusRow t b)
+  few-4 (fits, few) l =
+      record {
+        few-routes = f .few-routes;
+        few-protected = f .few-protected;
+        few-rows = simp length-append (omega arith);
+        few-args = each-snoc (λ r. length (r .args) ≤ 16) (t .rows) (rowIn b) (f .few-args) (omega (arith, args-count b fits));
+      }

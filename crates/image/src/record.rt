@@ -82,7 +82,7 @@ fn shape(last: u16, kind: u16, body: &[u8]) -> u8
         }
         return 0;
     }
-    if kind == 1 {
+    if kind < 2 {
         return 4;
     }
     if kind < last {

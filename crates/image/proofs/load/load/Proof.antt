@@ -117,7 +117,11 @@ loop-again-4 c =
     let f = c .before .before .before .before .before .before .before .before in
     let d = o f in
     goes-on (w d) (inside (q d)) (whole (q d)) (good d)
-    (held-4 (w d .held) (good d) (is-four f) (c .before .before .before .before .before .before .before .word-at7 .ensures, c .before .before .before .before .before .before .word-at8 .ensures, c .before .put-args .ensures))
+    (held-4 (w d .held) (good d) (is-four f) (
+      c .before .before .before .before .before .before .before .word-at7 .ensures,
+      c .before .before .before .before .before .before .word-at8 .ensures,
+      c .before .put-args .ensures,
+    ))
 
 pub load-spec : {M : Type 1} → statement M
 load-spec =

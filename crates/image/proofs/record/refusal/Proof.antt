@@ -15,6 +15,21 @@ shaped c = c .before .shape .ensures .right (c .if1 .left)
 fourth : (c : tie.Else4) → c .before .before .before .before .before .before .args .kind ≡ 4
 fourth c = let s = shaped (c .before .before .before) in omega (arith, s .kind-low, s .kind-high)
 
+returns-3 : tie.Need-returns-3
+returns-3 c t h =
+    let n = count (c .before .before .before .before .before .before .pre .0) in
+    by-route (shaped (c .before .before .before)) h (c .before .if3 .taken) n (c .route-refusal .ensures)
+
+returns-4 : tie.Need-returns-4
+returns-4 c t h =
+    let n = count (c .before .before .before .before .before .before .before .pre .1) in
+    by-protected (shaped (c .before .before .before .before)) h (c .before .if4 .taken) n (c .protected-refusal .ensures)
+
+returns-5 : tie.Need-returns-5
+returns-5 c t h =
+    let n = count (c .before .before .before .before .before .before .before .pre .2) in
+    by-fault-row (shaped (c .before .before .before .before)) h (fourth (c .before)) n (c .fault-row-refusal .ensures)
+
 pub refusal-spec : {M : Type 1} → statement M
 refusal-spec =
     tie.close
@@ -24,10 +39,10 @@ refusal-spec =
     (λ c κs. shaped (c .before) .fits .basics-6 (c .if2 .taken))
     (λ c t h. by-basics (shaped (c .before .before)) t (c .before .if2 .taken) (c .basics-refusal .ensures))
     (λ c κs. (shaped (c .before .before) .fits .route-3 (c .if3 .taken), c .before .before .before .before .before .pre .0))
-    (λ c t h. by-route (shaped (c .before .before .before)) h (c .before .if3 .taken) (count (c .before .before .before .before .before .before .pre .0)) (c .route-refusal .ensures))
-    (λ c κs. let p = c .before .before .before .before .before .before .pre in
-    (shaped (c .before .before .before) .fits .protected-2 (c .if4 .taken), p .0, p .1))
-    (λ c t h. by-protected (shaped (c .before .before .before .before)) h (c .before .if4 .taken) (count (c .before .before .before .before .before .before .before .pre .1)) (c .protected-refusal .ensures))
-    (λ c κs. let p = c .before .before .before .before .before .before .pre in
-    (omega (arith, shaped (c .before .before .before) .fits .row-7 (fourth c)), p .0, p .2))
-    (λ c t h. by-fault-row (shaped (c .before .before .before .before)) h (fourth (c .before)) (count (c .before .before .before .before .before .before .before .pre .2)) (c .fault-row-refusal .ensures)))
+    returns-3
+    (λ c κs. let a = c .before .before .before .before .before .before .pre in
+    (shaped (c .before .before .before) .fits .protected-2 (c .if4 .taken), a .0, a .1))
+    returns-4
+    (λ c κs. let a = c .before .before .before .before .before .before .pre in
+    (omega (arith, shaped (c .before .before .before) .fits .row-7 (fourth c)), a .0, a .2))
+    returns-5)
