@@ -1,3 +1,16 @@
 pub mod Records
 pub mod Image
 pub mod Good
+pub mod RecordLaws
+pub mod Outcome
+pub mod OutcomeLaws
+pub mod Parts
+pub mod PartLaws
+pub mod Seek
+pub mod GoodLaws
+pub mod GoodEach
+pub mod Loading
+pub mod Theorems
+pub mod Stored
+pub mod Held
+pub mod Walk

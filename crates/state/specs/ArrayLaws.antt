@@ -85,7 +85,8 @@ flat-snoc (ys ∷ rows) xs =
     ap (λ (l : List ℕ). padded 16 ys ++ l) (flat-snoc rows xs) ∙ sym (append-assoc (padded 16 ys) (flat rows) (padded 16 xs))
 
 -- a row's bytes are read at its place
-flat-at : (rows : List (List ℕ)) (z : List ℕ) (i : ℕ) → ShortArgs rows → i < length rows → take (length (getD rows i [])) (drop (i * 16) (flat rows ++ z)) ≡ getD rows i []
+flat-at : (rows : List (List ℕ)) (z : List ℕ) (i : ℕ) → ShortArgs rows → i < length rows
+    → take (length (getD rows i [])) (drop (i * 16) (flat rows ++ z)) ≡ getD rows i []
 flat-at [] z i s l = absurd (omega arith)
 flat-at (xs ∷ rows) z zero s l = simp append-assoc (take-append-seam xs (replicate (16 - length xs) 0 ++ (flat rows ++ z)))
 flat-at (xs ∷ rows) z (suc i) s l =
@@ -122,14 +123,25 @@ routes-back rows =
     (λ i l. rw (zero-add i, column-at routeId 128 rows d i l refl, column-at (λ r. r .dest) 128 rows d i l refl))
 
 rows-back : (rows : List FaultRow) → Short rows
-    → listed (rowAt (padded 32 (map faultId rows)) (padded 32 (map (λ r. r .response) rows)) (padded 32 (map (λ r. r .latching) rows)) (padded 32 (map (λ r. length (r .args)) rows)) (padded 512 (flat (map argsOf rows)))) 0 (length rows)
+    → listed
+    (rowAt (padded 32 (map faultId rows)) (padded 32 (map (λ r. r .response) rows)) (padded 32 (map (λ r. r .latching) rows))
+    (padded 32 (map (λ r. length (r .args)) rows)) (padded 512 (flat (map argsOf rows))))
+    0 (length rows)
     ≡ rows
 rows-back rows s =
     let d : FaultRow = record { id = 0; response = 0; latching = 0; args = [] } in
     listed-back _ d 0 rows
-    (λ i l. let a : take (length (getD (map argsOf rows) i [])) (drop (i * 16) (padded 512 (flat (map argsOf rows)))) ≡ getD (map argsOf rows) i [] = flat-at (map argsOf rows) _ i (short-args rows s) (rw (length-map rows argsOf) l) in
+    (λ i l. let a : take (length (getD (map argsOf rows) i [])) (drop (i * 16) (padded 512 (flat (map argsOf rows)))) ≡ getD (map argsOf rows) i [] =
+    flat-at (map argsOf rows) _ i (short-args rows s) (rw (length-map rows argsOf) l) in
     let g : getD (map argsOf rows) i [] ≡ getD rows i d .args = List·getD-map argsOf rows i d in
-    rw (zero-add i, column-at faultId 32 rows d i l refl, column-at (λ r. r .response) 32 rows d i l refl, column-at (λ r. r .latching) 32 rows d i l refl, column-at (λ r. length (r .args)) 32 rows d i l refl, rw g at a))
+    rw (
+      zero-add i,
+      column-at faultId 32 rows d i l refl,
+      column-at (λ r. r .response) 32 rows d i l refl,
+      column-at (λ r. r .latching) 32 rows d i l refl,
+      column-at (λ r. length (r .args)) 32 rows d i l refl,
+      rw g at a,
+    ))
 
 pub tables-back : (t : Tables) → Short (t .rows) → tablesOf (configOf t) ≡ t
 tables-back t s = rw (routes-back (t .routes), padded-take 32 (t .protected) (length (t .protected)) refl, rows-back (t .rows) s)
@@ -239,7 +251,8 @@ unused-clear t f =
     row-column : (g : FaultRow → ℕ) → Clear (drop (length (t .rows)) (padded 32 (map g (t .rows))))
     row-column g = behind-clear 32 (map g (t .rows)) (length (t .rows)) (length-map (t .rows) g)
 
-pub arrays-keep : (t : Tables) (starts : List ℕ) → Rules t → length starts ≡ length (t .rows) → Each (λ s. s ≤ 1) starts → Keeps (configOf t) (freshRun starts)
+pub arrays-keep : (t : Tables) (starts : List ℕ) → Rules t → length starts ≡ length (t .rows) → Each (λ s. s ≤ 1) starts
+    → Keeps (configOf t) (freshRun starts)
 arrays-keep t starts k e h =
     let f = rules-few k in
     let back = tables-back t (f .few-args) in

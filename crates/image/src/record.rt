@@ -1,0 +1,249 @@
+// What refuses a record: its kind, size and order, and then the rows before it, of which only the ids are looked at.
+// The arrays of ids are lent, so that nothing is copied.
+ghost use mathlib.Core.Path.{_≡_};
+ghost use mathlib.Core.Bool.{_&&_};
+ghost use mathlib.Core.List.{List};
+ghost use Prim.Native.Nat.{ℕ, _+_, _≤_, _<_};
+ghost use lib.ListN.{length, take, getD};
+ghost use Rattle.state.specs.Tables.{Tables};
+ghost use Rattle.state.specs.Rules.{member, floor, routeOk, rowOk, startOk};
+ghost use Rattle.state.specs.Test.{protectedPasses, rowPasses};
+ghost use Rattle.image.specs.Records.{le16};
+ghost use Rattle.image.specs.Image.{sized, startIn, rowIn, rowRefusal, basicsRefusal, refusalAfter};
+ghost use Rattle.image.specs.Parts.{Column, Holds, EndSays, ShapeSays};
+use state::rules;
+use wire::word;
+
+// The two-byte number at a place.
+// internal: for the loader, which has seen that the bytes are there.
+pub fn word_at(bytes: &[u8], at: usize) -> u16
+    requires { ⌜ at + 2 ≤ length (now bytes) ⌝ }
+    ensures { λ r. ⌜ r ≡ le16 (now (bytes .entry)) at ⌝ }
+{
+    word::little(bytes[at], bytes[at + 1])
+}
+
+// Where the record at a place ends; 0 where its header or body passes the end of the image.
+// internal: for the loader, whose place is within the image.
+pub fn end_of(image: &[u8], at: usize) -> usize
+    requires { ⌜ at ≤ length (now image) ⌝ }
+    ensures { λ r. ⌜ EndSays (now (image .entry)) at r ⌝ }
+{
+    if image.len() - at < 4 {
+        return 0;
+    }
+    let size = word_at(image, at) as usize;
+    if image.len() - at - 4 < size {
+        return 0;
+    }
+    at + 4 + size
+}
+
+// The body has the length of its kind, and n is at most 16. A kind that is none of 1, 2 and 3 is taken for 4.
+fn is_sized(kind: u16, body: &[u8]) -> bool
+    ensures { λ r. ⌜ r ≡ sized kind (now (body .entry)) ⌝ }
+{
+    let size = body.len();
+    if kind == 1 {
+        return size == 6;
+    }
+    if kind == 2 {
+        return size == 3;
+    }
+    if kind == 3 {
+        return size == 2;
+    }
+    if size < 7 {
+        return false;
+    }
+    let n = body[6];
+    if n > 16 {
+        return false;
+    }
+    size == 7 + n as usize
+}
+
+// 2, 3 or 4 by the kind, the size and the order; 0 where they are right.
+fn shape(last: u16, kind: u16, body: &[u8]) -> u8
+    ensures { λ r. ⌜ ShapeSays last kind (now (body .entry)) r ⌝ }
+{
+    if kind < 1 {
+        return 2;
+    }
+    if kind > 4 {
+        return 2;
+    }
+    if !is_sized(kind, body) {
+        return 3;
+    }
+    if last == 0 {
+        if kind != 1 {
+            return 4;
+        }
+        return 0;
+    }
+    if kind < 2 {
+        return 4;
+    }
+    if kind < last {
+        return 4;
+    }
+    0
+}
+
+// The id is among the first n.
+fn is_routed(ids: &[u16; 128], n: usize, id: u16) -> bool
+    requires { ⌜ Column 128 (now ids) n ⌝ }
+    ensures { λ r. ⌜ r ≡ member id (take n (now (ids .entry))) ⌝ }
+{
+    let mut k = 0;
+    while k < 128 {
+        if k >= n {
+            return false;
+        }
+        if ids[k] == id {
+            return true;
+        }
+        k += 1;
+    }
+    false
+}
+
+fn wide(x: u16) -> usize
+    ensures { λ r. ⌜ (r ≡ x) × (r < 65536) ⌝ }
+{
+    x as usize
+}
+
+// The least id that may follow the first n.
+fn floor_of(ids: &[u16], n: usize) -> usize
+    requires { ⌜ n ≤ length (now ids) ⌝ }
+    ensures { λ r. ⌜ r ≡ floor (take n (now (ids .entry))) ⌝ }
+{
+    if n == 0 {
+        return 0;
+    }
+    wide(ids[n - 1]) + 1
+}
+
+// Of a row behind n others, which leave this floor; `ok` is whether it keeps the other rules.
+fn row_refusal(limit: usize, low: usize, n: usize, id: u16, ok: bool) -> u8
+    ensures { λ r. ⌜ r ≡ rowRefusal limit low n id ok ⌝ }
+{
+    if wide(id) < low {
+        return 4;
+    }
+    if n >= limit {
+        return 6;
+    }
+    if !ok {
+        return 7;
+    }
+    0
+}
+
+fn basics_refusal(body: &[u8]) -> u8
+    requires { ⌜ length (now body) ≡ 6 ⌝ }
+    ensures { λ r. ⌜ r ≡ basicsRefusal (now (body .entry)) ⌝ }
+{
+    let ground = word_at(body, 0);
+    let fault = word_at(body, 2);
+    let base = word_at(body, 4);
+    if !rules::basics_ok(ground, fault, base) {
+        return 7;
+    }
+    0
+}
+
+fn route_refusal<'a>(body: &'a [u8], base: u16, ids: &'a [u16; 128], n: usize) -> u8
+    requires { ⌜ (length (now body) ≡ 3) × Column 128 (now ids) n ⌝ }
+    ensures { λ r. ⌜ r ≡ rowRefusal 128 (floor (take n (now (ids .entry)))) n (le16 (now (body .entry)) 0)
+        (routeOk base (le16 (now (body .entry)) 0) (getD (now (body .entry)) 2 0)) ⌝ }
+{
+    let id = word_at(body, 0);
+    let low = floor_of(ids, n);
+    let ok = rules::route_ok(base, id, body[2]);
+    row_refusal(128, low, n, id, ok)
+}
+
+fn protected_refusal<'a>(
+    body: &'a [u8],
+    base: u16,
+    ids: &'a [u16; 128],
+    n: usize,
+    protected: &'a [u16; 32],
+    m: usize,
+) -> u8
+    requires { ⌜ (length (now body) ≡ 2) × Column 128 (now ids) n × Column 32 (now protected) m ⌝ }
+    ensures { λ r. ⌜ r ≡ rowRefusal 32 (floor (take m (now (protected .entry)))) m (le16 (now (body .entry)) 0)
+        (protectedPasses base (take n (now (ids .entry))) (le16 (now (body .entry)) 0)) ⌝ }
+{
+    let id = word_at(body, 0);
+    let low = floor_of(protected, m);
+    let routed = is_routed(ids, n, id);
+    let ok = rules::protected_ok(base, routed, id);
+    row_refusal(32, low, m, id, ok)
+}
+
+// The start state is 0 or 1, the response is routed, latching is 0 or 1.
+fn row_ok(start: u8, routed: bool, latching: u8) -> bool
+    ensures { λ r. ⌜ r ≡ (startOk start && rowOk routed latching) ⌝ }
+{
+    if !rules::start_ok(start) {
+        return false;
+    }
+    rules::row_ok(routed, latching)
+}
+
+fn fault_row_refusal<'a>(
+    body: &'a [u8],
+    ids: &'a [u16; 128],
+    n: usize,
+    faults: &'a [u16; 32],
+    k: usize,
+) -> u8
+    requires { ⌜ (7 ≤ length (now body)) × Column 128 (now ids) n × Column 32 (now faults) k ⌝ }
+    ensures { λ r. ⌜ r ≡ rowRefusal 32 (floor (take k (now (faults .entry)))) k (le16 (now (body .entry)) 0)
+        (startOk (startIn (now (body .entry))) && rowPasses (take n (now (ids .entry))) (rowIn (now (body .entry)))) ⌝ }
+{
+    let id = word_at(body, 0);
+    let low = floor_of(faults, k);
+    let routed = is_routed(ids, n, word_at(body, 2));
+    let ok = row_ok(body[4], routed, body[5]);
+    row_refusal(32, low, k, id, ok)
+}
+
+// The refusal of a whole record behind the rows whose ids these are, or 0.
+// internal: for the loader, whose arrays are so.
+pub fn refusal<'a>(
+    last: u16,
+    kind: u16,
+    body: &'a [u8],
+    base: u16,
+    ids: &'a [u16; 128],
+    n: usize,
+    protected: &'a [u16; 32],
+    m: usize,
+    faults: &'a [u16; 32],
+    k: usize,
+) -> u8
+    requires { ⌜ Column 128 (now ids) n × Column 32 (now protected) m × Column 32 (now faults) k ⌝ }
+    ensures { λ r. ⌜ ((t : Tables)
+        → Holds t base (take n (now (ids .entry))) (take m (now (protected .entry))) (take k (now (faults .entry)))
+        → r ≡ refusalAfter last t kind (now (body .entry))) ⌝ }
+{
+    let s = shape(last, kind, body);
+    if s != 0 {
+        return s;
+    }
+    if kind == 1 {
+        return basics_refusal(body);
+    }
+    if kind == 2 {
+        return route_refusal(body, base, ids, n);
+    }
+    if kind == 3 {
+        return protected_refusal(body, base, ids, n, protected, m);
+    }
+    fault_row_refusal(body, ids, n, faults, k)
+}
