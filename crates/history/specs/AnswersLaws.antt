@@ -1,0 +1,105 @@
+-- The plain reading's answer to an accepted packet is the answer of the step, where the path is armed as the list says.
+use mathlib.Core.Path.{_≡_, refl, sym, ap, _∙_}
+use mathlib.Core.Bool.{Bool, true, false, cond, not, _&&_, _||_, false≢true}
+use mathlib.Core.List.{List, map}
+use Prim.Native.Nat.{ℕ, zero, suc, _+_, _-_, _<_, _≤_}
+use native.Mathlib.Omega.{arith}
+use lib.Dec.{eqb, ltb, eqb·suc-zero}
+use lib.ListN.{length, getD}
+use borrow.Author.Tests.{lt-ltb, eqb-true, eqb-false, eq-eqb, ne-eqb}
+use Rattle.packet.specs.Layout.{commandId}
+use Rattle.packet.specs.Judge.{check, refusalOf, argumentsOf}
+use Rattle.state.specs.Tables.{Tables, faultId, routed}
+use Rattle.state.specs.Rules.{own, member}
+use Rattle.image.specs.Records.{Record}
+use Rattle.effects.specs.Dispatch.{destOf}
+use Rattle.answers.specs.Own.{ownNumber, argsWanted, onRow, faultArg}
+use Rattle.answers.specs.OwnLaws.{both, own-range}
+use Rattle.answers.specs.Answers.{blocked, routeAnswer, answerFor, answerTo}
+use Rattle.answers.specs.Answers as steps
+use Rattle.history.specs.Plain.{Event, wanted, namesFault, faultNamed, tables, selects, isArm, armed, stopped, ownAnswer, packetAnswer}
+use Rattle.state.specs.Tables.{Route}
+use Rattle.history.specs.Plain.{destination}
+
+pub destination-is : (id : ℕ) (routes : List Route) → destOf id routes ≡ destination id routes
+destination-is id routes = refl
+
+module _ (image : List Record) where
+  abbrev t : Tables
+  t = tables image
+
+  pub selects-is : (p : List ℕ) → selects image p ≡ ownNumber (t .base) (commandId p)
+  unfolding ownNumber
+  selects-is p = refl
+
+  own-is : (k : ℕ) (args : List ℕ) → ownAnswer image k args ≡ steps.ownAnswer (map faultId (t .rows)) k args
+  unfolding steps.ownAnswer
+  own-is k args = go (eqb (length args) (wanted k)) (namesFault k) (member (faultNamed args) (map faultId (t .rows)))
+    where
+      go : (a b m : Bool) → cond a (cond (b && not m) 32 (cond (eqb k 0) 11 12)) 31 ≡ check a 31 (check (not b || m) 32 (cond (eqb k 0) 11 12))
+      go true true true = refl
+      go true true false = refl
+      go true false m = refl
+      go false b m = refl
+
+  small : (base id : ℕ) → own base id ≡ true → ltb (id - base) 8 ≡ true
+  small base id e = let r = own-range base id e in lt-ltb (id - base) 8 (omega arith)
+
+  -- past the protection
+  route-is : (m : Bool) → cond m 10 33 ≡ check m 33 10
+  route-is true = refl
+  route-is false = refl
+
+  own-or-route : (p : List ℕ) (o : Bool) → own (t .base) (commandId p) ≡ o
+      → cond (own (t .base) (commandId p)) (ownAnswer image (selects image p) (argumentsOf p)) (cond (member (commandId p) (routed t)) 10 33)
+      ≡ cond (ltb (ownNumber (t .base) (commandId p)) 8) (steps.ownAnswer (map faultId (t .rows)) (ownNumber (t .base) (commandId p)) (argumentsOf p)) (routeAnswer (routed t) (commandId p))
+  unfolding ownNumber routeAnswer
+  own-or-route p true e = simp (e, small (t .base) (commandId p) e, own-is)
+  own-or-route p false e = simp e (route-is (member (commandId p) (routed t)))
+
+  protect : (m a : Bool) (x : ℕ) → cond (m && not a) 30 x ≡ check (not (not a && m)) 30 x
+  protect true true x = refl
+  protect true false x = refl
+  protect false true x = refl
+  protect false false x = refl
+
+  pub answer-is : (h : List Event) (p : List ℕ) → packetAnswer image h p ≡ answerTo t (armed image h) (commandId p) (argumentsOf p)
+  unfolding blocked answerFor
+  answer-is h p =
+      ap (λ (x : ℕ). cond (stopped image h p) 30 x) (own-or-route p (own (t .base) (commandId p)) refl)
+      ∙ protect (member (commandId p) (t .protected)) (armed image h) _
+
+  -- ---- 11 is a well-formed arm command, where the arm id is not protected
+
+  arm-own : (k : ℕ) (args : List ℕ) → eqb (ownAnswer image k args) 11 ≡ (eqb k 0 && eqb (length args) 1)
+  arm-own zero args = go (eqb (length args) 1)
+    where
+      go : (b : Bool) → eqb (cond b 11 31) 11 ≡ b
+      go true = refl
+      go false = refl
+  arm-own (suc k) args = simp (eqb·suc-zero k) (go (eqb (length args) (wanted (suc k))) (namesFault (suc k) && not (member (faultNamed args) (map faultId (t .rows)))))
+    where
+      go : (a b : Bool) → eqb (cond a (cond b 32 12) 31) 11 ≡ false
+      go true true = refl
+      go true false = refl
+      go false b = refl
+
+  -- no protected id is the arm id
+  module _ (free : member (t .base) (t .protected) ≡ false) where
+    not-arm : (p : List ℕ) → own (t .base) (commandId p) ≡ true → member (commandId p) (t .protected) ≡ true → eqb (selects image p) 0 ≡ false
+    not-arm p o m =
+        let r = own-range (t .base) (commandId p) o in
+        simp o (ne-eqb (commandId p - t .base) 0 (λ z. let e : commandId p ≡ t .base = omega arith in false≢true (sym free ∙ rw e at m)))
+
+    pub arm-answer : (h : List Event) (p : List ℕ) → eqb (packetAnswer image h p) 11 ≡ isArm image p
+    arm-answer h p = go (stopped image h p) refl (own (t .base) (commandId p)) refl
+      where
+        no-route-11 : (m : Bool) → eqb (cond m 10 33) 11 ≡ false
+        no-route-11 true = refl
+        no-route-11 false = refl
+
+        go : (s : Bool) → stopped image h p ≡ s → (o : Bool) → own (t .base) (commandId p) ≡ o → eqb (packetAnswer image h p) 11 ≡ isArm image p
+        go true e true o = sym (simp (not-arm p o (both (member (commandId p) (t .protected)) _ e .0), e))
+        go true e false o = sym (simp (o, e))
+        go false e true o = simp e (simp o (arm-own (commandId p - t .base) (argumentsOf p)))
+        go false e false o = simp (e, o) (no-route-11 (member (commandId p) (routed t)))

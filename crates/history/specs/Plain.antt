@@ -1,0 +1,254 @@
+-- Demand 3's plain reading of a list. What each event is answered is read off the image's records and the earlier events, the
+-- latest first. There is no running state anywhere in it: the nearest earlier accepted packet, the ticks since, the steps
+-- since the last completed reset, and each fault row from its start state on.
+use mathlib.Core.Bool.{Bool, true, false, cond, not, _&&_, _||_}
+use mathlib.Core.List.{List, [], _∷_, map}
+use mathlib.Core.Option.{Option, none, some}
+use Prim.Native.Nat.{ℕ, _+_, _-_, _*_, _/_, _%_}
+use lib.Dec.{eqb, leb, ltb}
+use lib.ListN.{length, getD}
+use Rattle.packet.specs.Layout.{commandId}
+use Rattle.packet.specs.Judge.{refusalOf, argumentsOf}
+use Rattle.state.specs.Tables.{Route, FaultRow, Tables, faultId, routed}
+use Rattle.state.specs.Rules.{own, member}
+use Rattle.image.specs.Records.{Record}
+use Rattle.image.specs.Image.{ofKind, rowIn, startIn, tablesOfRecords}
+
+-- ---- events and replies
+
+pub data Event : Type 0 where
+  packet : List ℕ → Event
+  tick : Event
+  fault : ℕ → Event
+
+-- the four numbers of an answer, and the bytes of the command sent on
+pub record Reply : Type 0 where
+  pub answer : ℕ
+  pub id : ℕ
+  pub dest : ℕ
+  pub written : ℕ
+  pub bytes : List ℕ
+
+-- an answer with no id; one with its id; a command dispatched
+abbrev pub bare : ℕ → Reply
+bare n = record { answer = n; id = 0; dest = 0; written = 0; bytes = [] }
+
+abbrev pub named : ℕ → ℕ → Reply
+named n id = record { answer = n; id = id; dest = 0; written = 0; bytes = [] }
+
+-- source, command id, argument count, arguments
+abbrev pub dispatched : ℕ → ℕ → ℕ → List ℕ → Reply
+dispatched source id dest args =
+    record {
+      answer = 10;
+      id = id;
+      dest = dest;
+      written = 5 + length args;
+      bytes = source / 256 ∷ source % 256 ∷ id / 256 ∷ id % 256 ∷ length args ∷ args;
+    }
+
+-- a packet is accepted by the judge's rules
+abbrev pub accepted : List ℕ → Bool
+accepted p = eqb (refusalOf p) 0
+
+-- ---- the nearest earlier accepted packet, and the ticks since
+
+abbrev pub nearest : List Event → Option (List ℕ)
+nearest [] = none
+nearest (packet p ∷ h) = cond (accepted p) (some p) (nearest h)
+nearest (tick ∷ h) = nearest h
+nearest (fault f ∷ h) = nearest h
+
+abbrev pub ticksSince : List Event → ℕ
+ticksSince [] = 0
+ticksSince (packet p ∷ h) = cond (accepted p) 0 (ticksSince h)
+ticksSince (tick ∷ h) = ticksSince h + 1
+ticksSince (fault f ∷ h) = ticksSince h
+
+-- ---- the destination of a routed id
+
+abbrev pub destination : ℕ → List Route → ℕ
+destination id [] = 0
+destination id (r ∷ routes) = cond (eqb id (r .id)) (r .dest) (destination id routes)
+
+-- ---- a fault row of the image, with its start state
+
+pub record Row : Type 0 where
+  pub row : FaultRow
+  pub start : ℕ
+
+abbrev pub rowOf : List ℕ → Row
+rowOf body = record { row = rowIn body; start = startIn body }
+
+-- the states 0 disabled, 1 enabled, 2 latched, by the table of events
+abbrev pub whenEnabled : ℕ → ℕ
+whenEnabled s = cond (eqb s 2) 2 1
+
+abbrev pub whenCleared : ℕ → ℕ
+whenCleared s = cond (eqb s 0) 0 1
+
+-- a fault that was answered 10 found the row enabled
+abbrev pub whenFaulted : Row → ℕ
+whenFaulted r = cond (eqb (r .row .latching) 0) 1 2
+
+-- ---- own commands: the id less own base selects
+
+-- argument bytes: arm, reset, no-op, no-op with argument, enable, disable, clear, clear all
+abbrev pub wanted : ℕ → ℕ
+wanted k = getD (1 ∷ 0 ∷ 0 ∷ 4 ∷ 2 ∷ 2 ∷ 2 ∷ 0 ∷ []) k 0
+
+-- enable, disable and clear name a fault id
+abbrev pub namesFault : ℕ → Bool
+namesFault k = leb 4 k && leb k 6
+
+abbrev pub faultNamed : List ℕ → ℕ
+faultNamed args = getD args 0 0 * 256 + getD args 1 0
+
+-- the answer to a fault, by the rows and the state of each: 34 not in the table, 10 enabled, else 13
+abbrev pub faultAnswer : ℕ → (Row → ℕ) → List Row → ℕ
+faultAnswer f state [] = 34
+faultAnswer f state (r ∷ rows) = cond (eqb f (r .row .id)) (cond (eqb (state r) 1) 10 13) (faultAnswer f state rows)
+
+-- the row of a fault id
+abbrev pub rowNamed : ℕ → List Row → FaultRow
+rowNamed f [] = record { id = 0; response = 0; latching = 0; args = [] }
+rowNamed f (r ∷ rows) = cond (eqb f (r .row .id)) (r .row) (rowNamed f rows)
+
+-- one more where the test holds
+abbrev pub more : Bool → ℕ → ℕ
+more true n = n + 1
+more false n = n
+
+module _ (image : List Record) where
+  abbrev pub tables : Tables
+  tables = tablesOfRecords image
+
+  abbrev pub rows : List Row
+  rows = map rowOf (ofKind 4 image)
+
+  -- ---- arming
+
+  -- the own command that a packet's id selects; 8 where the id is no own id
+  abbrev pub selects : List ℕ → ℕ
+  selects p = cond (own (tables .base) (commandId p)) (commandId p - tables .base) 8
+
+  -- a well-formed arm command, and its timeout
+  abbrev pub isArm : List ℕ → Bool
+  isArm p = eqb (selects p) 0 && eqb (length (argumentsOf p)) 1
+
+  abbrev pub timeout : List ℕ → ℕ
+  timeout p = getD (argumentsOf p) 0 0
+
+  -- the nearest earlier accepted packet was a well-formed arm command, and its timeout was zero or fewer ticks than that
+  -- timeout came between
+  abbrev pub lasts : Option (List ℕ) → ℕ → Bool
+  lasts none ticks = false
+  lasts (some p) ticks = isArm p && (eqb (timeout p) 0 || ltb ticks (timeout p))
+
+  abbrev pub armed : List Event → Bool
+  armed h = lasts (nearest h) (ticksSince h)
+
+  -- ---- the answer to an accepted packet
+
+  -- a protected command that is not let past
+  abbrev pub stopped : List Event → List ℕ → Bool
+  stopped h p = member (commandId p) (tables .protected) && not (armed h)
+
+  abbrev pub ownAnswer : ℕ → List ℕ → ℕ
+  ownAnswer k args =
+      cond (eqb (length args) (wanted k))
+      (cond (namesFault k && not (member (faultNamed args) (map faultId (tables .rows)))) 32
+      (cond (eqb k 0) 11 12))
+      31
+
+  abbrev pub packetAnswer : List Event → List ℕ → ℕ
+  packetAnswer h p =
+      cond (stopped h p) 30
+      (cond (own (tables .base) (commandId p)) (ownAnswer (selects p) (argumentsOf p))
+      (cond (member (commandId p) (routed tables)) 10 33))
+
+  -- an accepted packet with the own command k that was done
+  abbrev pub done : ℕ → List Event → List ℕ → Bool
+  done k h p = accepted p && (eqb (selects p) k && eqb (packetAnswer h p) 12)
+
+  -- ---- a fault row's state: from its start state through the earlier events that act on it, in their order
+
+  -- the enable, disable and clear commands answered 12 that name it, and clear all
+  abbrev pub told : List Event → List ℕ → Row → ℕ → ℕ
+  told h p r s =
+      cond (done 4 h p && eqb (faultNamed (argumentsOf p)) (r .row .id)) (whenEnabled s)
+      (cond (done 5 h p && eqb (faultNamed (argumentsOf p)) (r .row .id)) 0
+      (cond (done 6 h p && eqb (faultNamed (argumentsOf p)) (r .row .id)) (whenCleared s)
+      (cond (done 7 h p) (whenCleared s)
+      s)))
+
+  -- and the faults of its id answered 10
+  abbrev pub stateOf : List Event → Row → ℕ
+  stateOf [] r = r .start
+  stateOf (packet p ∷ h) r = told h p r (stateOf h r)
+  stateOf (tick ∷ h) r = stateOf h r
+  stateOf (fault f ∷ h) r =
+      cond (eqb f (r .row .id) && eqb (faultAnswer f (stateOf h) rows) 10) (whenFaulted r) (stateOf h r)
+
+  -- ---- the reply to each event
+
+  abbrev pub packetReply : List ℕ → ℕ → Reply
+  packetReply p n =
+      cond (eqb n 10)
+      (dispatched (tables .ground) (commandId p) (destination (commandId p) (tables .routes)) (argumentsOf p))
+      (named n (commandId p))
+
+  abbrev pub faultReply : ℕ → ℕ → Reply
+  faultReply f n =
+      cond (eqb n 10)
+      (dispatched (tables .fault) (rowNamed f rows .response) (destination (rowNamed f rows .response) (tables .routes)) (rowNamed f rows .args))
+      (bare n)
+
+  abbrev pub reply : List Event → Event → Reply
+  reply h (packet p) = cond (accepted p) (packetReply p (packetAnswer h p)) (bare (refusalOf p))
+  reply h tick = bare (cond (armed h && not (armed (tick ∷ h))) 15 14)
+  reply h (fault f) = faultReply f (faultAnswer f (stateOf h) rows)
+
+  -- the replies to a list of events behind those of h
+  abbrev pub replies : List Event → List Event → List Reply
+  replies h [] = []
+  replies h (e ∷ es) = reply h e ∷ replies (e ∷ h) es
+
+  -- ---- the counters: the number of their steps since the last completed reset, or since loading
+
+  abbrev pub resets : List Event → Event → Bool
+  resets h (packet p) = done 1 h p
+  resets h tick = false
+  resets h (fault f) = false
+
+  abbrev pub count : (List Event → Event → Bool) → List Event → ℕ
+  count moves [] = 0
+  count moves (e ∷ h) = cond (resets h e) 0 (more (moves h e) (count moves h))
+
+  -- which steps move which counter
+  abbrev pub movesA : List Event → Event → Bool
+  movesA h (packet p) = accepted p
+  movesA h tick = false
+  movesA h (fault f) = false
+
+  abbrev pub movesR : List Event → Event → Bool
+  movesR h (packet p) = not (accepted p)
+  movesR h tick = false
+  movesR h (fault f) = false
+
+  abbrev pub movesD : List Event → Event → Bool
+  movesD h e = eqb (reply h e .answer) 10
+
+  abbrev pub movesP : List Event → Event → Bool
+  movesP h e = eqb (reply h e .answer) 30
+
+  abbrev pub movesU : List Event → Event → Bool
+  movesU h e = eqb (reply h e .answer) 33
+
+  abbrev pub movesI : List Event → Event → Bool
+  movesI h e = eqb (reply h e .answer) 31 || eqb (reply h e .answer) 32
+
+  abbrev pub movesF : List Event → Event → Bool
+  movesF h (packet p) = false
+  movesF h tick = false
+  movesF h (fault f) = true
