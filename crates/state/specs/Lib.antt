@@ -4,5 +4,9 @@ pub mod Rules
 pub mod Keeps
 pub mod Test
 pub mod KeepsLaws
+pub mod Walks
+pub mod Merge
+pub mod Parts
+pub mod JudgeLaws
 pub mod Lookup
 pub mod LookupLaws
