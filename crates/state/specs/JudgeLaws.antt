@@ -1,30 +1,21 @@
 -- What the judge of a state asks is the test of `Test`: its walks see arrays where the test speaks of rows, and a row without
 -- its arguments where they do not count.
-use mathlib.Core.Path.{_≡_, refl, sym, ap, _∙_}
+use mathlib.Core.Path.{_≡_, refl, sym, _∙_}
 use mathlib.Core.Bool.{Bool, true, false, _&&_, and-false, and-assoc}
-use mathlib.Core.List.{List, [], _∷_, map}
-use Prim.Native.Nat.{ℕ, zero, suc, _+_, _≤_}
+use mathlib.Core.List.{List, [], _∷_}
+use Prim.Native.Nat.{ℕ, zero, suc, _≤_}
 use native.Mathlib.Omega.{arith}
 use lib.ListN.{length, getD, take, drop}
-use lib.Seq.{drop-cons}
 use Rattle.state.specs.declared.types.Config.{Config}
 use Rattle.state.specs.declared.types.Run.{Run}
-use Rattle.state.specs.Tables.{FaultRow, routeId, faultId, routed, listed, routeAt, rowAt, tablesOf}
+use Rattle.state.specs.Tables.{routeId, faultId, listed, routeAt, rowAt}
 use Rattle.state.specs.Sized.{Sized, SizedRun, Within}
 use Rattle.state.specs.Rules.{basicsOk}
 use Rattle.state.specs.Keeps.{Rising}
-use Rattle.state.specs.Test.{risingAll, rowPasses, clear, argsClear, routesKept, protectedKept, rowsKept, rulesKept, counted, unusedClear, configKept, armOk, statesOk, runKept, keepsRules}
+use Rattle.state.specs.Test.{risingAll, rowPasses, clear, routesKept, rowsKept, rulesKept, counted, unusedClear, configKept, statesOk, runKept, keepsRules}
 use Rattle.state.specs.Parts.{bare, routesPart, rowsPart, argsPart, runPart}
 use Rattle.state.specs.KeepsLaws.{rising-keeps, route-keeps, counts-keeps}
-use Rattle.state.specs.Walks.{ids-listed}
-
--- the routed ids are the first of their array
-ids-of : (ids dests : List ℕ) (k n : ℕ) → map routeId (listed (routeAt ids dests) k n) ≡ listed (λ i. getD ids i 0) k n
-ids-of ids dests k zero = refl
-ids-of ids dests k (suc n) = ap (λ (xs : List ℕ). getD ids k 0 ∷ xs) (ids-of ids dests (suc k) n)
-
-pub routed-is : (ids dests : List ℕ) (n : ℕ) → n ≤ length ids → map routeId (listed (routeAt ids dests) 0 n) ≡ take n ids
-routed-is ids dests n l = ids-of ids dests 0 n ∙ sym (ids-listed ids n l)
+use Rattle.state.specs.Walks.{routed-is}
 
 -- routes that pass rise
 pub routes-rise : (base : ℕ) (ids dests : List ℕ) (n : ℕ) → n ≤ length ids → routesKept base (listed (routeAt ids dests) 0 n) ≡ true → Rising 0 (take n ids)
@@ -45,8 +36,9 @@ module _ (ids responses latching counts args : List ℕ) where
   bare-states k (suc n) [] = refl
   bare-states k (suc n) (s ∷ ss) = simp (bare-states (suc k) n ss)
 
-pub within : {c : Config} {r : Run} → Sized c → SizedRun r → counted (c .nroutes) (c .nprotected) (c .nrows) ≡ true → Within c r
-within s t e =
+-- counts that keep their limits stay within the arrays
+pub counts-within : {c : Config} {r : Run} → Sized c → SizedRun r → counted (c .nroutes) (c .nprotected) (c .nrows) ≡ true → Within c r
+counts-within s t e =
     let n = counts-keeps e in
     record { routes = omega arith; rows = omega arith; args = omega arith; run = omega arith }
 

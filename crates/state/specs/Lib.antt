@@ -10,3 +10,4 @@ pub mod Parts
 pub mod JudgeLaws
 pub mod Lookup
 pub mod LookupLaws
+pub mod Columns

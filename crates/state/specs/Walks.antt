@@ -1,7 +1,7 @@
 -- Laws of walks over tables: what stands at a place, and what a walk that has passed the rows before it keeps true.
 use mathlib.Core.Path.{_≡_, refl, sym, ap, _∙_}
 use mathlib.Core.Bool.{Bool, true, false, cond, not, _&&_, _||_, and-false, and-true, or-false}
-use mathlib.Core.List.{List, [], _∷_}
+use mathlib.Core.List.{List, [], _∷_, map}
 use Prim.Native.Nat.{ℕ, zero, suc, _+_, _-_, _*_, _<_, _≤_}
 use native.Mathlib.Numerals.{add-one}
 use native.Mathlib.Omega.{arith}
@@ -9,7 +9,7 @@ use lib.Dec.{leb, eqb}
 use lib.ListN.{length, getD, take, drop, length-take, drop-of-length-le}
 use lib.Seq.{drop-cons, drop-drop, getD-take}
 use borrow.Author.Tests.{le-leb, lt-leb, not-true, not-false}
-use Rattle.state.specs.Tables.{Route, FaultRow, routeId, faultId, listed}
+use Rattle.state.specs.Tables.{Route, FaultRow, routeId, faultId, listed, routeAt, rowAt}
 use Rattle.state.specs.Rules.{member}
 use Rattle.state.specs.Test.{risingAll, clear, argsClear, routePasses, rowPasses, routesKept, rowsKept, stateOk, statesOk}
 
@@ -50,6 +50,17 @@ ids-from xs k (suc n) l = rw (drop-cons xs k 0 (omega arith)) (ap (λ (ys : List
 
 pub ids-listed : (xs : List ℕ) (n : ℕ) → n ≤ length xs → take n xs ≡ listed (λ i. getD xs i 0) 0 n
 ids-listed xs n l = ids-from xs 0 n (omega arith)
+
+-- a column of the rows is the first of its array
+map-listed : {A : Type 0} (g : A → ℕ) (f : ℕ → A) (k n : ℕ) → map g (listed f k n) ≡ listed (λ i. g (f i)) k n
+map-listed g f k zero = refl
+map-listed g f k (suc n) = ap (λ (xs : List ℕ). g (f k) ∷ xs) (map-listed g f (suc k) n)
+
+pub routed-is : (ids dests : List ℕ) (n : ℕ) → n ≤ length ids → map routeId (listed (routeAt ids dests) 0 n) ≡ take n ids
+routed-is ids dests n l = map-listed routeId (routeAt ids dests) 0 n ∙ sym (ids-listed ids n l)
+
+pub faults-are : (ids responses latching counts args : List ℕ) (n : ℕ) → n ≤ length ids → map faultId (listed (rowAt ids responses latching counts args) 0 n) ≡ take n ids
+faults-are ids responses latching counts args n l = map-listed faultId (rowAt ids responses latching counts args) 0 n ∙ sym (ids-listed ids n l)
 
 -- ---- rising ids and a test of each row: the rows before k passed and leave this floor, so w, the answer for all n rows, is
 -- the answer for the rest

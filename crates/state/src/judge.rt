@@ -1,12 +1,12 @@
-// The judge of a whole state, which every public step asks first. Routes and rows are passed over once; the walks that end
-// at their first fault do so where that is faster, and the others gather a bool, of which the compiler makes vector code.
+// The judge of a whole state, which every public step asks first. Each table is passed over once. A walk ends at its first
+// fault where that is the faster way; the others gather a bool, its new part first, and the compiler makes vector code of them.
 use crate::rules;
 use crate::types::Config;
 use crate::types::Run;
 ghost use mathlib.Core.Path.{_≡_};
 ghost use mathlib.Core.Bool.{_&&_, _||_};
 ghost use mathlib.Core.List.{[]};
-ghost use Prim.Native.Nat.{_+_, _*_, _≤_, _<_};
+ghost use Prim.Native.Nat.{_*_, _≤_, _<_};
 ghost use lib.ListN.{length, take, drop};
 ghost use Rattle.state.specs.Tables.{listed, routeAt};
 ghost use Rattle.state.specs.Rules.{member};
@@ -51,6 +51,7 @@ fn wide(x: u16) -> usize
     x as usize
 }
 
+// No table has more rows than its limit.
 fn counts_ok(nroutes: usize, nprotected: usize, nrows: usize) -> bool
     ensures { λ r. ⌜ r ≡ counted nroutes nprotected nrows ⌝ }
 {
@@ -63,6 +64,7 @@ fn counts_ok(nroutes: usize, nprotected: usize, nrows: usize) -> bool
     nrows <= 32
 }
 
+// Unarmed with no ticks, or armed with at most 255.
 fn arm_ok(armed: bool, ticks: u16) -> bool
     ensures { λ r. ⌜ r ≡ armOk armed ticks ⌝ }
 {
@@ -72,6 +74,7 @@ fn arm_ok(armed: bool, ticks: u16) -> bool
     ticks == 0
 }
 
+// A known fault state, and latched only in a row that latches.
 fn state_ok(latching: u8, s: u8) -> bool
     ensures { λ r. ⌜ r ≡ stateOk latching s ⌝ }
 {
@@ -91,14 +94,15 @@ fn zero_words(xs: &[u16], from: usize) -> bool
     ensures { λ r. ⌜ r ≡ clear (drop from (now (xs .entry))) ⌝ }
 {
     let mut ok = true;
-    let mut k = from;
-    while k < xs.len() {
-        ok = both(xs[k] == 0, ok);
-        k += 1;
+    let mut j = from;
+    while j < xs.len() {
+        ok = both(xs[j] == 0, ok);
+        j += 1;
     }
     ok
 }
 
+// The same of bytes.
 fn zero_bytes(xs: &[u8], from: usize) -> bool
     ensures { λ r. ⌜ r ≡ clear (drop from (now (xs .entry))) ⌝ }
 {
@@ -190,8 +194,8 @@ fn protected_keep<'a>(base: u16, ids: &'a [u16], n: usize, protected: &'a [u16],
     let mut k = 0;
     while k < m {
         let id = protected[k];
-        let x = wide(id);
-        if x < low {
+        let p = wide(id);
+        if p < low {
             return false;
         }
         j = seek(ids, n, j, id);
@@ -199,7 +203,7 @@ fn protected_keep<'a>(base: u16, ids: &'a [u16], n: usize, protected: &'a [u16],
         if !rules::protected_ok(base, found, id) {
             return false;
         }
-        low = x + 1;
+        low = p + 1;
         k += 1;
     }
     true
@@ -234,15 +238,15 @@ fn rows_keep<'a>(
     let mut low = 0;
     let mut k = 0;
     while k < m {
-        let x = wide(faultids[k]);
-        if x < low {
+        let f = wide(faultids[k]);
+        if f < low {
             return false;
         }
         let routed = is_routed(ids, n, responses[k]);
         if !rules::row_ok(routed, latching[k]) {
             return false;
         }
-        low = x + 1;
+        low = f + 1;
         k += 1;
     }
     true

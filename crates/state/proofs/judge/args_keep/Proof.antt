@@ -2,7 +2,6 @@
 use Prim.Native.Nat.{_-_}
 use mathlib.Core.Path.{_∙_}
 use native.Mathlib.Omega.{arith}
-use borrow.Author.Needs.{needs}
 use Rattle.state.specs.Walks.{refuted, held, ArgsWalked, args-start, args-many, args-left, args-on, args-end}
 use Rattle.state.proofs.judge.args_keep.Statement.{statement}
 use Rattle.state.proofs.judge.args_keep.Tie as tie

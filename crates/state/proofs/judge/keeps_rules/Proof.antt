@@ -1,10 +1,8 @@
 -- `keeps_rules`: the parts of the test, asked one after the other.
-use mathlib.Core.Path.{_∙_}
-use native.Mathlib.Omega.{arith}
 use borrow.Author.Needs.{needs}
 use Rattle.state.specs.Sized.{Sized, SizedRun, Within}
 use Rattle.state.specs.Walks.{refuted, held}
-use Rattle.state.specs.JudgeLaws.{within, miscounted, judged}
+use Rattle.state.specs.JudgeLaws.{counts-within, miscounted, judged}
 use Rattle.state.proofs.judge.keeps_rules.Statement.{statement}
 use Rattle.state.proofs.judge.keeps_rules.Tie as tie
 
@@ -12,7 +10,7 @@ sized : (c : tie.Start) → Sized (c .args .t1) × SizedRun (c .args .t2)
 sized c = (search needs, search needs)
 
 fit : (c : tie.Else1) → Within (c .before .before .args .t1) (c .before .before .args .t2)
-fit c = let s = sized (c .before .before) in within (s .0) (s .1) (held (c .before .counts-ok .ensures) (c .if1 .left))
+fit c = let s = sized (c .before .before) in counts-within (s .0) (s .1) (held (c .before .counts-ok .ensures) (c .if1 .left))
 
 -- the place behind the counts' test, from each call behind it
 abbrev from-routes : tie.After-routes-judged → tie.Else1

@@ -18,4 +18,6 @@ routes-judged-spec =
     (λ c κs. tt)
     (λ c κs. tt)
     (λ c κs. tt)
-    (λ c. let k = c .before .before .before .before .before in simp (held (k .before .routes-keep .ensures) (k .if1 .left)) (cc)))
+    (λ c. simp
+    (held (c .before .before .before .before .before .before .routes-keep .ensures) (c .before .before .before .before .before .if1 .left))
+    (cc)))

@@ -3,7 +3,6 @@ use Prim.Native.Nat.{_-_}
 use mathlib.Core.Path.{refl}
 use native.Mathlib.Omega.{arith}
 use lib.ListN.{length, drop, drop-of-length-le}
-use borrow.Author.Needs.{needs}
 use Rattle.state.specs.Walks.{Zeroed, item-at, zero-on, zero-ends}
 use Rattle.state.proofs.judge.zero_bytes.Statement.{statement}
 use Rattle.state.proofs.judge.zero_bytes.Tie as tie

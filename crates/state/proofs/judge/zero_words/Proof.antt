@@ -9,10 +9,10 @@ use Rattle.state.proofs.judge.zero_words.Statement.{statement}
 use Rattle.state.proofs.judge.zero_words.Tie as tie
 
 abbrev Inv-loop : tie.InvT-loop
-Inv-loop xs from ok₀ k₀ ok k = Zeroed (drop from xs) (drop k xs) ok
+Inv-loop xs from ok₀ j₀ ok j = Zeroed (drop from xs) (drop j xs) ok
 
 abbrev μ-loop : tie.MeasureT-loop
-μ-loop xs from ok₀ k₀ ok k = length xs - k
+μ-loop xs from ok₀ j₀ ok j = length xs - j
 
 pub zero-words-spec : {M : Type 1} → statement M
 zero-words-spec =
@@ -27,5 +27,5 @@ zero-words-spec =
     (λ c. omega arith)
     (λ c. omega arith)
     (λ c. let h = c .before .before .before in
-    zero-on (h .loop .inv) (item-at (h .before .before .args .xs .now) (h .loop .k) (omega arith)) (c .both .ensures))
+    zero-on (h .loop .inv) (item-at (h .before .before .args .xs .now) (h .loop .j) (omega arith)) (c .both .ensures))
     (λ c. zero-ends (c .before .loop .inv) (drop-of-length-le (c .before .before .before .args .xs .now) (c .loop-test .left))))

@@ -1,7 +1,6 @@
 -- `route_ok`: three tests, in their order.
 use borrow.Author.Needs.{needs}
 use borrow.Author.Tests.{le-leb, lt-leb}
-use native.Mathlib.Omega.{arith}
 use Rattle.state.specs.Rules.{routeOk}
 use Rattle.state.proofs.rules.route_ok.Statement.{statement}
 use Rattle.state.proofs.rules.route_ok.Tie as tie
