@@ -1,7 +1,7 @@
 -- The computed test of `Test` is the declared record of `Keeps`, in both directions, rule by rule and whole: a law `..kept`
 -- goes from the record to the test, and its partner `..keeps` back.
 use mathlib.Core.Path.{_≡_, refl, sym, _∙_}
-use mathlib.Core.Bool.{Bool, true, false, not, _&&_, _||_, or-true, false≢true}
+use mathlib.Core.Bool.{Bool, true, false, not, _&&_, or-true, false≢true}
 use mathlib.Core.Logic.{_⊎_, inl, inr}
 use mathlib.Core.List.{List, [], _∷_, map, map-id, List·Memᴰ, List·Memᴰ·head, List·Memᴰ·tail}
 use Prim.Native.Nat.{ℕ, zero, suc, _+_, _≤_, _<_}
@@ -285,39 +285,42 @@ module _ {t : Tables} {r : Run} where
       let a = both (armOk (r .arm .armed) (r .arm .ticks)) _ e in
       record { arm-ok = arm-keeps (r .arm .armed) (r .arm .ticks) (a .0); states-ok = states-keeps (t .rows) (r .states) (a .1) }
 
+module _ {nroutes nprotected nrows : ℕ} where
+  pub counts-kept : (nroutes ≤ 128) × (nprotected ≤ 32) × (nrows ≤ 32) → counted nroutes nprotected nrows ≡ true
+  unfolding counted
+  counts-kept (l, m, n) = simp (le-leb nroutes 128 l, le-leb nprotected 32 m, le-leb nrows 32 n)
+
+  pub counts-keeps : counted nroutes nprotected nrows ≡ true → (nroutes ≤ 128) × (nprotected ≤ 32) × (nrows ≤ 32)
+  unfolding counted
+  counts-keeps e =
+      let a = both (leb nroutes 128) _ e in
+      let b = both (leb nprotected 32) _ (a .1) in
+      (leb-true _ _ (a .0), leb-true _ _ (b .0), leb-true _ _ (b .1))
+
 pub config-kept : (c : Config) → c .nprotected ≤ 32 → Rules (tablesOf c) → Unused c → configKept c ≡ true
-unfolding configKept counted
+unfolding configKept
 config-kept c within rules unused =
     let n = length-listed (routeAt (c .routeids) (c .dests)) 0 (c .nroutes) in
     let m = length-listed (rowAt (c .faultids) (c .responses) (c .latching) (c .argcounts) (c .args)) 0 (c .nrows) in
-    simp (
-      le-leb (c .nroutes) 128 (omega (arith, rules .few-routes)),
-      le-leb (c .nprotected) 32 within,
-      le-leb (c .nrows) 32 (omega (arith, rules .few-rows)),
-      rules-kept rules,
-      unused-kept unused,
-    )
+    let few : (c .nroutes ≤ 128) × (c .nprotected ≤ 32) × (c .nrows ≤ 32) = omega (arith, rules .few-routes, rules .few-rows) in
+    simp (counts-kept few, rules-kept rules, unused-kept unused)
 
 pub config-keeps : (c : Config) → configKept c ≡ true → (c .nprotected ≤ 32) × Rules (tablesOf c) × Unused c
-unfolding configKept counted
+unfolding configKept
 config-keeps c e =
     let a = both (counted (c .nroutes) (c .nprotected) (c .nrows)) _ e in
-    let b = both (leb (c .nroutes) 128) _ (a .0) in
-    let d = both (leb (c .nprotected) 32) _ (b .1) in
-    let f = both (rulesKept (tablesOf c)) _ (a .1) in
-    let routes : c .nroutes ≤ 128 = leb-true _ _ (b .0) in
-    let protected : c .nprotected ≤ 32 = leb-true _ _ (d .0) in
-    let rows : c .nrows ≤ 32 = leb-true _ _ (d .1) in
-    let unused = unused-keeps {c = c} (f .1) in (
-      protected,
-      rules-keeps (f .0)
+    let b = both (rulesKept (tablesOf c)) _ (a .1) in
+    let few = counts-keeps (a .0) in
+    let unused = unused-keeps {c = c} (b .1) in (
+      few .1,
+      rules-keeps (b .0)
           record {
-            few-routes = simp length-listed (omega arith);
+            few-routes = simp length-listed (few .0);
             few-protected = simp length-take (omega arith);
-            few-rows = simp length-listed (omega arith);
+            few-rows = simp length-listed (few .2);
             few-args =
                 each-listed (λ r. length (r .args) ≤ 16) (rowAt (c .faultids) (c .responses) (c .latching) (c .argcounts) (c .args)) 0 (c .nrows)
-                (λ i l. let few = few-counted (c .nrows) i (c .argcounts) (c .args) (unused .args-clear) (omega arith) in simp length-take (omega arith));
+                (λ i l. let m = few-counted (c .nrows) i (c .argcounts) (c .args) (unused .args-clear) (omega arith) in simp length-take (omega arith));
           },
       unused,
     )

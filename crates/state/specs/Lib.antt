@@ -8,3 +8,7 @@ pub mod Lookup
 pub mod LookupLaws
 pub mod ArrayLaws
 pub mod Columns
+pub mod JudgeLaws
+pub mod Merge
+pub mod Parts
+pub mod Walks

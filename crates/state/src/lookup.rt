@@ -4,7 +4,6 @@ ghost use mathlib.Core.Path.{_≡_};
 ghost use Prim.Native.Nat.{_≤_};
 ghost use lib.ListN.{take};
 ghost use Rattle.state.specs.Lookup.{placeIn, Column};
-ghost use Rattle.state.specs.Rules.{member};
 
 // The place of a route by its command id; n where there is none.
 // internal: for the path's own stages, whose tables keep their rules.
@@ -31,15 +30,15 @@ pub fn place(ids: &[u16; 32], n: usize, id: u16) -> usize
     requires { ⌜ Column 32 (now ids) n ⌝ }
     ensures { λ r. ⌜ (r ≡ placeIn id (take n (now (ids .entry)))) × (r ≤ n) ⌝ }
 {
-    let mut k = 0;
-    while k < 32 {
-        if k >= n {
+    let mut j = 0;
+    while j < 32 {
+        if j >= n {
             return n;
         }
-        if ids[k] == id {
-            return k;
+        if ids[j] == id {
+            return j;
         }
-        k += 1;
+        j += 1;
     }
     n
 }

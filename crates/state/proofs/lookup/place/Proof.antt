@@ -6,10 +6,10 @@ use Rattle.state.proofs.lookup.place.Statement.{statement}
 use Rattle.state.proofs.lookup.place.Tie as tie
 
 abbrev Inv-loop : tie.InvT-loop
-Inv-loop ids n id k₀ k = Looked ids n id k
+Inv-loop ids n id j₀ j = Looked ids n id j
 
 abbrev μ-loop : tie.MeasureT-loop
-μ-loop ids n id k₀ k = 32 - k
+μ-loop ids n id j₀ j = 32 - j
 
 pub place-spec : {M : Type 1} → statement M
 place-spec =
