@@ -8,7 +8,3 @@ pub mod Lookup
 pub mod LookupLaws
 pub mod ArrayLaws
 pub mod Columns
-pub mod JudgeLaws
-pub mod Merge
-pub mod Parts
-pub mod Walks

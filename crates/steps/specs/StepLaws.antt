@@ -82,3 +82,38 @@ module _ (t : Tables) (p out : List ℕ) where
   pub packet-sent : (n id : ℕ) (args : List ℕ) → id ≡ commandId p → args ≡ argumentsOf p → sent n (t .ground) id args out ≡ packetOutput t n p out
   unfolding packetOutput
   packet-sent n id args ei ea = rw (ei, ea)
+
+-- ---- on any state
+
+module _ (c : Config) (run : Run) where
+  pub packet-20 : (p : List ℕ) (room : ℕ) → keepsRules c run ≡ false → unchanged run 20 ≡ packetStepOf c run p room
+  unfolding packetStepOf
+  packet-20 p room k = simp k
+
+  pub packet-21 : (p : List ℕ) (room : ℕ) → keepsRules c run ≡ true → room < 260 → unchanged run 21 ≡ packetStepOf c run p room
+  unfolding packetStepOf
+  packet-21 p room k h = simp (k, lt-leb 260 room h)
+
+  pub packet-on : (p : List ℕ) (room : ℕ) → keepsRules c run ≡ true → 260 ≤ room → packetStep (tablesOf c) run p ≡ packetStepOf c run p room
+  unfolding packetStepOf
+  packet-on p room k h = simp (k, le-leb 260 room h)
+
+  pub fault-20 : (f room : ℕ) → keepsRules c run ≡ false → unchanged run 20 ≡ faultStepOf c run f room
+  unfolding faultStepOf
+  fault-20 f room k = simp k
+
+  pub fault-21 : (f room : ℕ) → keepsRules c run ≡ true → room < 260 → unchanged run 21 ≡ faultStepOf c run f room
+  unfolding faultStepOf
+  fault-21 f room k h = simp (k, lt-leb 260 room h)
+
+  pub fault-on : (f room : ℕ) → keepsRules c run ≡ true → 260 ≤ room → faultStep (tablesOf c) run f ≡ faultStepOf c run f room
+  unfolding faultStepOf
+  fault-on f room k h = simp (k, le-leb 260 room h)
+
+  pub tick-20 : keepsRules c run ≡ false → unchanged run 20 ≡ tickStepOf c run
+  unfolding tickStepOf
+  tick-20 k = simp k
+
+  pub tick-on : keepsRules c run ≡ true → tickStep run ≡ tickStepOf c run
+  unfolding tickStepOf
+  tick-on k = simp k

@@ -11,7 +11,7 @@ ghost use lib.ListN.{length, take, drop};
 ghost use Rattle.state.specs.Tables.{tablesOf};
 ghost use Rattle.state.specs.Keeps.{Keeps};
 ghost use Rattle.effects.specs.Dispatch.{commandBytes, over};
-ghost use Rattle.steps.specs.Step.{faultStep, faultOutput};
+ghost use Rattle.steps.specs.Step.{faultStep, faultOutput, faultStepOf};
 ghost use Rattle.steps.specs.FaultStepLaws.{silentStep};
 
 // A fault that sends nothing on, 34 or 13: F alone moves.
@@ -70,4 +70,18 @@ pub fn inner_fault(config: Config, run: Run, fault: u16, out: &mut [u8]) -> Step
             written: written,
         },
     }
+}
+
+// The step of any state, any fault number and any output: 20, 21, then the fault.
+pub fn step_fault(config: Config, run: Run, fault: u16, out: &mut [u8]) -> Stepped
+    ensures step { λ r. ⌜ r ≡ faultStepOf config run fault (length (now (out .entry))) ⌝ }
+    ensures output { λ r. ⌜ now (out .exit) ≡ faultOutput (tablesOf config) (r .answer .answer) fault (now (out .entry)) ⌝ }
+{
+    if !statecheck::keeps_rules(config, run) {
+        return crate::types::refused(run, 20);
+    }
+    if out.len() < 260 {
+        return crate::types::refused(run, 21);
+    }
+    inner_fault(config, run, fault, out)
 }

@@ -13,7 +13,7 @@ ghost use lib.ListN.{length, getD, take};
 ghost use Rattle.state.specs.Tables.{tablesOf, listed, rowAt};
 ghost use Rattle.state.specs.Lookup.{Column};
 ghost use Rattle.state.specs.Keeps.{Keeps};
-ghost use Rattle.steps.specs.Step.{rejectedStep, packetStep, packetOutput};
+ghost use Rattle.steps.specs.Step.{rejectedStep, packetStep, packetOutput, packetStepOf};
 ghost use Rattle.steps.specs.StateLaws.{statesOn};
 
 // A rejected packet: R, and nothing else.
@@ -105,4 +105,18 @@ pub fn inner_packet(config: Config, run: Run, packet: &[u8], out: &mut [u8]) -> 
             written: written,
         },
     }
+}
+
+// The step of any state, any packet and any output: 20, 21, then the packet.
+pub fn step_packet(config: Config, run: Run, packet: &[u8], out: &mut [u8]) -> Stepped
+    ensures step { λ r. ⌜ r ≡ packetStepOf config run (now (packet .entry)) (length (now (out .entry))) ⌝ }
+    ensures output { λ r. ⌜ now (out .exit) ≡ packetOutput (tablesOf config) (r .answer .answer) (now (packet .entry)) (now (out .entry)) ⌝ }
+{
+    if !statecheck::keeps_rules(config, run) {
+        return crate::types::refused(run, 20);
+    }
+    if out.len() < 260 {
+        return crate::types::refused(run, 21);
+    }
+    inner_packet(config, run, packet, out)
 }

@@ -4,7 +4,7 @@ use effects::arm;
 use state::types::Config;
 use state::types::Run;
 ghost use mathlib.Core.Path.{_≡_};
-ghost use Rattle.steps.specs.Step.{tickStep};
+ghost use Rattle.steps.specs.Step.{tickStep, tickStepOf};
 
 // A tick on a run: only the arm record may change.
 pub fn inner_tick(run: Run) -> Stepped
@@ -19,4 +19,14 @@ pub fn inner_tick(run: Run) -> Stepped
         run: left,
         answer: crate::types::bare(n),
     }
+}
+
+// The step of any state: 20, then the tick.
+pub fn step_tick(config: Config, run: Run) -> Stepped
+    ensures { λ r. ⌜ r ≡ tickStepOf config run ⌝ }
+{
+    if !statecheck::keeps_rules(config, run) {
+        return crate::types::refused(run, 20);
+    }
+    inner_tick(run)
 }

@@ -1,0 +1,4 @@
+pub mod Walks
+pub mod Merge
+pub mod Parts
+pub mod JudgeLaws
