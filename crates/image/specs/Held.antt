@@ -14,7 +14,7 @@ use Rattle.image.specs.Image.{startIn, tablesOfRecords, startsOfRecords}
 use Rattle.image.specs.RecordLaws.{plus-1, plus-2, plus-3, plus-4, starts-4, starts-same, starts-count}
 use Rattle.image.specs.Outcome.{GoodAfter}
 use Rattle.image.specs.OutcomeLaws.{room-2, room-3, room-4}
-use Rattle.image.specs.Parts.{Column, Holds}
+use Rattle.image.specs.Parts.{Slots, Holds}
 use Rattle.image.specs.Stored.{withBasics, withRoute, withProtected, withRow, stored-1, stored-2, stored-3, stored-4, few-1, few-2, few-3, few-4}
 
 pub record Held (rs : List Record) (c : Config) (states : List ℕ) : Type 0 where
@@ -37,7 +37,7 @@ module _ {rs : List Record} {c : Config} {states : List ℕ} (h : Held rs c stat
 
   -- ---- what the parts ask
 
-  pub columns : Column 128 (c .routeids) (c .nroutes) × Column 32 (c .protected) (c .nprotected) × Column 32 (c .faultids) (c .nrows)
+  pub columns : Slots 128 (c .routeids) (c .nroutes) × Slots 32 (c .protected) (c .nprotected) × Slots 32 (c .faultids) (c .nrows)
   columns =
       let s = arrays-sized t (h .few) in
       let f = h .few in

@@ -9,6 +9,7 @@ pub mod PartLaws
 pub mod Seek
 pub mod GoodLaws
 pub mod GoodEach
+pub mod Places
 pub mod Loading
 pub mod Theorems
 pub mod Stored

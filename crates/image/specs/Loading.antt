@@ -16,6 +16,7 @@ use Rattle.image.specs.Outcome.{Outcome, GoodAfter, AllGood}
 use Rattle.image.specs.OutcomeLaws.{outcome, outcome-only, good-zero, zero-good}
 use Rattle.image.specs.GoodLaws.{all-records, all-in-order, all-tables, all-start}
 use Rattle.image.specs.GoodEach.{each-good}
+use Rattle.image.specs.Places.{bytesOf, none, begins-behind}
 
 -- ---- declared
 
@@ -34,6 +35,10 @@ pub data Loading (image : List ℕ) (l : Loaded) : Type 0 where
   loads : Good image → l ≡ loaded (recordsOf image) → Loading image l
   nothing : length image ≡ 0 → l ≡ refused 5 0 → Loading image l
   stops : {n place : ℕ} → FirstBad [] (recordsOf image) n place → l ≡ refused n place → Loading image l
+
+-- so it begins behind the bytes of the good ones
+pub first-begins : (image : List ℕ) {n place : ℕ} (f : FirstBad [] (recordsOf image) n place) → place ≡ bytesOf (f .good)
+first-begins image f = f .begins-at ∙ begins-behind image (f .good) (f .bad) (f .rest) (f .good-before) (f .are)
 
 -- ---- records behind those before
 
@@ -131,11 +136,7 @@ loading image =
     go h (fails f q) = stops f q
 
 first-some : {rs : List Record} {n place : ℕ} → FirstBad [] rs n place → rs ≡ [] → ⊥
-first-some f e = go (f .good) (sym (f .are) ∙ e)
-  where
-    go : (good : List Record) → good ++ f .bad ∷ f .rest ≡ [] → ⊥
-    go [] q = let z : _≡_ {A = ℕ} 0 1 = cc q in omega arith
-    go (r ∷ good) q = let z : _≡_ {A = ℕ} 0 1 = cc q in omega arith
+first-some f e = none (f .good) (f .bad) (f .rest) (sym e ∙ f .are)
 
 -- no other answer fits
 pub only : {image : List ℕ} {l : Loaded} → Loading image l → l ≡ loadOf image

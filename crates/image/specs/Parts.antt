@@ -12,7 +12,7 @@ use Rattle.image.specs.Image.{refusalAfter}
 use Rattle.image.specs.Outcome.{Shaped}
 
 -- an array of so many places of which the first n are in use
-pub record Column (limit : ℕ) (ids : List ℕ) (n : ℕ) : Type 0 where
+pub record Slots (limit : ℕ) (ids : List ℕ) (n : ℕ) : Type 0 where
   pub long : length ids ≡ limit
   pub within : n ≤ limit
 

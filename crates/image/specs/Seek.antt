@@ -9,14 +9,14 @@ use lib.ListN.{length, getD, take, drop, drop-of-length-le}
 use lib.Seq.{drop-cons, getD-take, length-take-le, take-suc}
 use borrow.Author.Tests.{eq-eqb, ne-eqb}
 use Rattle.state.specs.Rules.{member, floorFrom, floor}
-use Rattle.image.specs.Parts.{Column}
+use Rattle.image.specs.Parts.{Slots}
 
 -- the id is at none of the first k places: it is sought in the rest
 pub record Sought (ids : List ℕ) (n id k : ℕ) : Type 0 where
   pub upto : k ≤ n
   pub rest : member id (take n ids) ≡ member id (drop k (take n ids))
 
-module _ {limit : ℕ} {ids : List ℕ} {n : ℕ} (c : Column limit ids n) where
+module _ {limit : ℕ} {ids : List ℕ} {n : ℕ} (c : Slots limit ids n) where
   pub sought : (id : ℕ) → Sought ids n id 0
   sought id = record { upto = omega arith; rest = refl }
 

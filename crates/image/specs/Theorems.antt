@@ -58,7 +58,8 @@ module _ (image : List ℕ) (z : loadOf image .answer ≡ 0) where
       rw loaded-is
       (kept _ _ (arrays-keep (tablesOfRecords rs) (startsOfRecords rs) (g .rules) (starts-count rs) (g .starts-0-1)))
 
--- ---- a refusal: of an empty image, or of the first bad record, at its place; the state is all zero
+-- ---- a refusal: of an empty image, or of the first bad record, at its place (`first-begins`: behind the bytes of the good ones);
+-- the state is all zero
 
 pub data Refusal (image : List ℕ) : ℕ → ℕ → Type 0 where
   of-nothing : length image ≡ 0 → Refusal image 5 0

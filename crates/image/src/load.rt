@@ -70,7 +70,7 @@ fn refusal(n: u8, at: usize) -> Loaded
     }
 }
 
-// The argument bytes of a row, at its place.
+// The argument bytes of a row, at its place. A function of its own, since a field can be lent as an array but not as a slice.
 fn put_args(args: &mut [u8; 512], at: usize, s: &[u8])
     requires { ⌜ (length (now args) ≡ 512) × (at + length (now s) ≤ 512) ⌝ }
     ensures { λ _. ⌜ now (args .exit) ≡ putAt (now (args .entry)) at (now (s .entry)) ⌝ }

@@ -10,7 +10,7 @@ ghost use Rattle.state.specs.Rules.{member, floor, routeOk, rowOk, startOk};
 ghost use Rattle.state.specs.Test.{protectedPasses, rowPasses};
 ghost use Rattle.image.specs.Records.{le16};
 ghost use Rattle.image.specs.Image.{sized, startIn, rowIn, rowRefusal, basicsRefusal, refusalAfter};
-ghost use Rattle.image.specs.Parts.{Column, Holds, EndSays, ShapeSays};
+ghost use Rattle.image.specs.Parts.{Slots, Holds, EndSays, ShapeSays};
 use state::rules;
 use wire::word;
 
@@ -93,7 +93,7 @@ fn shape(last: u16, kind: u16, body: &[u8]) -> u8
 
 // The id is among the first n.
 fn is_routed(ids: &[u16; 128], n: usize, id: u16) -> bool
-    requires { ⌜ Column 128 (now ids) n ⌝ }
+    requires { ⌜ Slots 128 (now ids) n ⌝ }
     ensures { λ r. ⌜ r ≡ member id (take n (now (ids .entry))) ⌝ }
 {
     let mut k = 0;
@@ -109,6 +109,7 @@ fn is_routed(ids: &[u16; 128], n: usize, id: u16) -> bool
     false
 }
 
+// Widened, so that one above the last id there is still fits.
 fn wide(x: u16) -> usize
     ensures { λ r. ⌜ (r ≡ x) × (r < 65536) ⌝ }
 {
@@ -142,6 +143,7 @@ fn row_refusal(limit: usize, low: usize, n: usize, id: u16, ok: bool) -> u8
     0
 }
 
+// Of kind 1: the sources differ, and own base fits.
 fn basics_refusal(body: &[u8]) -> u8
     requires { ⌜ length (now body) ≡ 6 ⌝ }
     ensures { λ r. ⌜ r ≡ basicsRefusal (now (body .entry)) ⌝ }
@@ -155,8 +157,9 @@ fn basics_refusal(body: &[u8]) -> u8
     0
 }
 
+// Of kind 2, behind the n routes with these ids.
 fn route_refusal<'a>(body: &'a [u8], base: u16, ids: &'a [u16; 128], n: usize) -> u8
-    requires { ⌜ (length (now body) ≡ 3) × Column 128 (now ids) n ⌝ }
+    requires { ⌜ (length (now body) ≡ 3) × Slots 128 (now ids) n ⌝ }
     ensures { λ r. ⌜ r ≡ rowRefusal 128 (floor (take n (now (ids .entry)))) n (le16 (now (body .entry)) 0)
         (routeOk base (le16 (now (body .entry)) 0) (getD (now (body .entry)) 2 0)) ⌝ }
 {
@@ -166,6 +169,7 @@ fn route_refusal<'a>(body: &'a [u8], base: u16, ids: &'a [u16; 128], n: usize) -
     row_refusal(128, low, n, id, ok)
 }
 
+// Of kind 3, behind n routes and m protected ids: the only lookup is that of its own id.
 fn protected_refusal<'a>(
     body: &'a [u8],
     base: u16,
@@ -174,7 +178,7 @@ fn protected_refusal<'a>(
     protected: &'a [u16; 32],
     m: usize,
 ) -> u8
-    requires { ⌜ (length (now body) ≡ 2) × Column 128 (now ids) n × Column 32 (now protected) m ⌝ }
+    requires { ⌜ (length (now body) ≡ 2) × Slots 128 (now ids) n × Slots 32 (now protected) m ⌝ }
     ensures { λ r. ⌜ r ≡ rowRefusal 32 (floor (take m (now (protected .entry)))) m (le16 (now (body .entry)) 0)
         (protectedPasses base (take n (now (ids .entry))) (le16 (now (body .entry)) 0)) ⌝ }
 {
@@ -195,6 +199,7 @@ fn row_ok(start: u8, routed: bool, latching: u8) -> bool
     rules::row_ok(routed, latching)
 }
 
+// Of kind 4, behind n routes and k fault rows: the only lookup is that of its response id.
 fn fault_row_refusal<'a>(
     body: &'a [u8],
     ids: &'a [u16; 128],
@@ -202,7 +207,7 @@ fn fault_row_refusal<'a>(
     faults: &'a [u16; 32],
     k: usize,
 ) -> u8
-    requires { ⌜ (7 ≤ length (now body)) × Column 128 (now ids) n × Column 32 (now faults) k ⌝ }
+    requires { ⌜ (7 ≤ length (now body)) × Slots 128 (now ids) n × Slots 32 (now faults) k ⌝ }
     ensures { λ r. ⌜ r ≡ rowRefusal 32 (floor (take k (now (faults .entry)))) k (le16 (now (body .entry)) 0)
         (startOk (startIn (now (body .entry))) && rowPasses (take n (now (ids .entry))) (rowIn (now (body .entry)))) ⌝ }
 {
@@ -227,7 +232,7 @@ pub fn refusal<'a>(
     faults: &'a [u16; 32],
     k: usize,
 ) -> u8
-    requires { ⌜ Column 128 (now ids) n × Column 32 (now protected) m × Column 32 (now faults) k ⌝ }
+    requires { ⌜ Slots 128 (now ids) n × Slots 32 (now protected) m × Slots 32 (now faults) k ⌝ }
     ensures { λ r. ⌜ ((t : Tables)
         → Holds t base (take n (now (ids .entry))) (take m (now (protected .entry))) (take k (now (faults .entry)))
         → r ≡ refusalAfter last t kind (now (body .entry))) ⌝ }

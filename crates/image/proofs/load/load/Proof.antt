@@ -1,14 +1,15 @@
 -- `load`: the loop's invariant is `Walked`, and each way out is one of its laws. The measure is what is left of the image.
 use mathlib.Core.Path.{_≡_, refl, _∙_}
-use mathlib.Core.List.{List}
+use mathlib.Core.List.{List, [], _∷_, _++_}
 use Prim.Native.Nat.{ℕ, _+_, _-_, _*_, _<_, _≤_}
 use native.Mathlib.Omega.{arith}
 use lib.ListN.{length, getD, take, drop, length-take}
+use Rattle.state.specs.declared.types.Config.{Config}
 use Rattle.image.specs.Image.{tablesOfRecords, refusalAfter}
 use Rattle.image.specs.RecordLaws.{Whole, bodyAt}
 use Rattle.image.specs.Outcome.{GoodAfter}
 use Rattle.image.specs.Loading.{nothing, only}
-use Rattle.image.specs.Held.{columns, holds, args-long, six, three, two, fourth, seven, held-1, held-2, held-3, held-4}
+use Rattle.image.specs.Held.{Held, columns, holds, args-long, six, three, two, fourth, seven, held-1, held-2, held-3, held-4}
 use Rattle.image.specs.Walk.{Walked, start, ends, cuts, found, refuses, not-refused, goes-on}
 use Rattle.image.proofs.load.load.Statement.{statement}
 use Rattle.image.proofs.load.load.Tie as tie
@@ -33,6 +34,9 @@ module _ (c : tie.After-word-at Inv-loop μ-loop) where
   abbrev end : ℕ
   end = c .before .before .end-of .result
 
+  abbrev body : List ℕ
+  body = bodyAt bs (head .loop .at) end
+
   inside : head .loop .at < length bs
   inside = c .before .before .before .loop-test .taken
 
@@ -46,7 +50,7 @@ module _ (c : tie.After-refusal3 Inv-loop μ-loop) where
   abbrev p : tie.After-word-at Inv-loop μ-loop
   p = c .before .before .before .before .before .before
 
-  told : c .refusal3 .result ≡ refusalAfter (head p .loop .last) (tablesOfRecords (head p .loop .inv .before)) (kind p) (bodyAt (bs p) (head p .loop .at) (end p))
+  told : c .refusal3 .result ≡ refusalAfter (head p .loop .last) (tablesOfRecords (head p .loop .inv .before)) (kind p) (body p)
   told = c .refusal3 .ensures _ (holds (head p .loop .inv .held))
 
 -- and where nothing refuses it
@@ -60,16 +64,20 @@ module _ (c : tie.Else3 Inv-loop μ-loop) where
   good : GoodAfter (w .before) (found w (inside q) (whole q))
   good = not-refused w (inside q) (whole q) (told (c .before)) (c .if3 .left)
 
+  -- once it is stored the loop goes on
+  turn : {d : Config} {ss : List ℕ} → Held (w .before ++ found w (inside q) (whole q) ∷ []) d ss → Walked (bs q) d ss (kind q) (end q)
+  turn h = goes-on w (inside q) (whole q) good h
+
   shorter : length (bs q) - end q < length (bs q) - head q .loop .at
   shorter = omega (arith, inside q, whole q .end-is, whole q .inside)
 
-  is-six : kind q ≡ 1 → length (bodyAt (bs q) (head q .loop .at) (end q)) ≡ 6
+  is-six : kind q ≡ 1 → length (body q) ≡ 6
   is-six k = six (w .held) good k
 
-  is-three : kind q ≡ 2 → (length (bodyAt (bs q) (head q .loop .at) (end q)) ≡ 3) × (head q .loop .config .nroutes < 128)
+  is-three : kind q ≡ 2 → (length (body q) ≡ 3) × (head q .loop .config .nroutes < 128)
   is-three k = three (w .held) good k
 
-  is-two : kind q ≡ 3 → (length (bodyAt (bs q) (head q .loop .at) (end q)) ≡ 2) × (head q .loop .config .nprotected < 32)
+  is-two : kind q ≡ 3 → (length (body q) ≡ 2) × (head q .loop .config .nprotected < 32)
   is-two k = two (w .held) good k
 
 -- a record of kind 4
@@ -80,16 +88,17 @@ module _ (c : tie.Else6 Inv-loop μ-loop) where
   is-four : kind (q o) ≡ 4
   is-four = fourth (w o .held) (good o) (c .before .before .if4 .left, c .before .if5 .left, c .if6 .left)
 
-  is-seven : let b = bodyAt (bs (q o)) (head (q o) .loop .at) (end (q o)) in (length b ≡ 7 + getD b 6 0) × (getD b 6 0 ≤ 16) × (head (q o) .loop .config .nrows < 32)
+  is-seven : let b = body (q o) in (length b ≡ 7 + getD b 6 0) × (getD b 6 0 ≤ 16) × (head (q o) .loop .config .nrows < 32)
   is-seven = seven (w o .held) (good o) is-four
 
-  args-fit : let b = bodyAt (bs (q o)) (head (q o) .loop .at) (end (q o)) in head (q o) .loop .config .nrows * 16 + length (take (length b - 7) (drop 7 b)) ≤ 512
-  args-fit = let b = bodyAt (bs (q o)) (head (q o) .loop .at) (end (q o)) in omega (arith, is-seven, length-take (length b - 7) (drop 7 b))
+  args-fit : let b = body (q o) in head (q o) .loop .config .nrows * 16 + length (take (length b - 7) (drop 7 b)) ≤ 512
+  args-fit = let b = body (q o) in omega (arith, is-seven, length-take (length b - 7) (drop 7 b))
 
 returns-2 : tie.Need-returns-2 Inv-loop μ-loop
 returns-2 c =
     c .refusal2 .ensures
-    ∙ cuts (c .before .before .before .before .loop .inv) (c .before .before .before .loop-test .taken) (c .before .before .end-of .ensures .is-cut (c .before .if2 .taken))
+    ∙ cuts (c .before .before .before .before .loop .inv) (c .before .before .before .loop-test .taken)
+    (c .before .before .end-of .ensures .is-cut (c .before .if2 .taken))
 
 returns-3 : tie.Need-returns-3 Inv-loop μ-loop
 returns-3 c =
@@ -99,24 +108,24 @@ returns-3 c =
 loop-again : tie.Need-loop-again Inv-loop μ-loop
 loop-again c =
     let d = c .before .before .before .before in
-    goes-on (w d) (inside (q d)) (whole (q d)) (good d)
+    turn d
     (held-1 (w d .held) (good d) (c .before .before .before .if4 .taken) (c .before .before .word-at2 .ensures, c .before .word-at3 .ensures, c .word-at4 .ensures))
 
 loop-again-2 : tie.Need-loop-again-2 Inv-loop μ-loop
 loop-again-2 c =
     let d = c .before .before .before .before in
-    goes-on (w d) (inside (q d)) (whole (q d)) (good d) (held-2 (w d .held) (good d) (c .before .before .if5 .taken) (c .before .word-at5 .ensures))
+    turn d (held-2 (w d .held) (good d) (c .before .before .if5 .taken) (c .before .word-at5 .ensures))
 
 loop-again-3 : tie.Need-loop-again-3 Inv-loop μ-loop
 loop-again-3 c =
     let d = c .before .before .before .before in
-    goes-on (w d) (inside (q d)) (whole (q d)) (good d) (held-3 (w d .held) (good d) (c .before .if6 .taken) (c .word-at6 .ensures))
+    turn d (held-3 (w d .held) (good d) (c .before .if6 .taken) (c .word-at6 .ensures))
 
 loop-again-4 : tie.Need-loop-again-4 Inv-loop μ-loop
 loop-again-4 c =
     let f = c .before .before .before .before .before .before .before .before in
     let d = o f in
-    goes-on (w d) (inside (q d)) (whole (q d)) (good d)
+    turn d
     (held-4 (w d .held) (good d) (is-four f) (
       c .before .before .before .before .before .before .before .word-at7 .ensures,
       c .before .before .before .before .before .before .word-at8 .ensures,
