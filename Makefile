@@ -1,10 +1,11 @@
-# The two commands: `make demo` runs the main job on built-in examples, `make test` is the whole gate.
+# The two commands: `make demo` runs the step program on configuration C and its session, `make test` is the whole gate.
 .PHONY: demo test
 
 demo:
 	@mkdir -p target
-	@rt check packet_cases > target/demo.log 2>&1 || { cat target/demo.log; exit 1; }
-	@bin/run packet_cases
+	@rt check step > target/demo.log 2>&1 || { cat target/demo.log; exit 1; }
+	@echo "Configuration C and its session (G, ARM, tick, G, ARM, tick, tick, G, PAD, fault 7, fault 7, fault 8):"
+	@bin/step crates/step/data/path.cfg < crates/step/stdin
 
 test:
 	@bash .ci/run

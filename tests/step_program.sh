@@ -1,0 +1,63 @@
+# The step program on inputs that a user could hand it: no configuration, an empty one, one too long, and records that are cut,
+# of another kind or of wrong length. What it prints is compared whole.
+set -eu
+cd "$(dirname "$0")/.."
+room=$(mktemp -d)
+trap 'rm -rf "$room"' EXIT
+c=crates/step/data/path.cfg
+failed=0
+
+# same NAME CONFIG EXPECTED: what bin/step prints for the records on standard input
+same() {
+    if [ "$(bin/step "$2" 2>/dev/null)" = "$3" ]; then
+        echo "step program: $1: ok"
+    else
+        echo "step program: $1: not as expected" >&2
+        failed=1
+    fi
+}
+
+bytes() { printf '%b' "$1"; }
+
+: >"$room/empty"
+same "no configuration" "$room/none" "5 0
+bad" </dev/null
+same "an empty configuration" "$room/empty" "5 0
+bad" </dev/null
+same "no records" "$c" "0 0" </dev/null
+{ cat "$c"; head -c 70000 /dev/zero; } >"$room/long"
+same "a configuration longer than 65,536 bytes" "$room/long" "2 42
+bad" </dev/null
+bytes '\0000\0000\0021\0000' | same "a tick" "$c" "0 0
+14 0 0 0"
+bytes '\0000\0000\0021\0000\0000\0000\0021' | same "a header cut" "$c" "0 0
+14 0 0 0
+bad"
+bytes '\0012\0000\0020\0000\0030\0001' | same "a body cut" "$c" "0 0
+bad"
+bytes '\0000\0000\0023\0000' | same "kind 19" "$c" "0 0
+bad"
+bytes '\0001\0000\0021\0000\0000' | same "a tick with a body" "$c" "0 0
+bad"
+bytes '\0001\0000\0022\0000\0007' | same "a fault of one byte" "$c" "0 0
+bad"
+bytes '\0002\0000\0022\0000\0007\0000' | same "a fault" "$c" "0 0
+10 10 1 6"
+bytes '\0000\0000\0020\0000' | same "an empty packet" "$c" "0 0
+22 0 0 0"
+{ bytes '\0377\0377\0020\0000'; head -c 65535 /dev/zero; bytes '\0000\0000\0021\0000'; } | same "the longest packet" "$c" "0 0
+23 0 0 0
+14 0 0 0"
+
+# an input longer than any buffer: 40,000 ticks, 160,000 bytes
+i=0
+while [ $i -lt 40 ]; do bytes '\0000\0000\0021\0000'; i=$((i + 1)); done >"$room/forty"
+i=0
+while [ $i -lt 1000 ]; do cat "$room/forty"; i=$((i + 1)); done >"$room/ticks"
+if [ "$(bin/step "$c" <"$room/ticks" | grep -c '^14 0 0 0$')" = 40000 ]; then
+    echo "step program: 40,000 ticks: ok"
+else
+    echo "step program: 40,000 ticks: not as expected" >&2
+    failed=1
+fi
+exit $failed
