@@ -4,3 +4,4 @@ pub mod Known
 pub mod RowsLaws
 pub mod AnswersLaws
 pub mod KnownLaws
+pub mod Agree

@@ -1,0 +1,137 @@
+-- Demand 3: for any good configuration and any list of packets, ticks and faults, the running path agrees on every answer with
+-- the plain reading of the list.
+use mathlib.Core.Path.{_≡_, refl, sym, ap, _∙_}
+use mathlib.Core.Bool.{Bool, true, false, cond, not, _&&_, _||_, or-true, false≢true}
+use mathlib.Core.Logic.{_⊎_, inl, inr}
+use mathlib.Core.Option.{Option, none, some}
+use mathlib.Core.List.{List, [], _∷_, map}
+use Prim.Native.Nat.{ℕ, _<_}
+use native.Mathlib.Omega.{arith}
+use lib.Dec.{eqb, ltb}
+use lib.ListN.{length}
+use borrow.Author.Tests.{eq-eqb, ne-eqb, lt-ltb, eqb-true, ltb-true}
+use Rattle.packet.specs.Layout.{commandId}
+use Rattle.packet.specs.Judge.{argumentsOf}
+use Rattle.state.specs.declared.types.Run.{Run}
+use Rattle.state.specs.Tables.{faultId, routed, tablesOf}
+use Rattle.state.specs.Rules.{own, member}
+use Rattle.state.specs.Keeps.{Each, ProtectedOk, Rising}
+use Rattle.answers.specs.OwnLaws.{both}
+use Rattle.image.specs.Records.{Record, recordsOf}
+use Rattle.image.specs.Image.{ofKind, rowIn, tablesOfRecords, startsOfRecords, loadOf}
+use Rattle.image.specs.Theorems.{loads-good, loaded-tables, loaded-run}
+use Rattle.history.specs.Plain.{Event, packet, wanted, namesFault, faultNamed, selects, nearest, ticksSince, isArm, timeout, lasts, armed, accepted, packetAnswer, packetReply, stopped, Reply, Row, rowOf, tables, rows, stateOf, reply, replies}
+use Rattle.history.specs.Path.{run, after}
+use Rattle.history.specs.Known.{known, knownCounts}
+use Rattle.history.specs.RowsLaws.{rising-distinct, map-then}
+use Rattle.history.specs.KnownLaws.{Sound, step-known}
+
+-- ---- from any history on
+
+module _ (image : List Record) (s : Sound image) where
+  pub run-replies : (h es : List Event) → run (tables image) (known image h) es ≡ replies image h es
+  run-replies h [] = refl
+  run-replies h (e ∷ es) =
+      let k = step-known image s h e in
+      rw (k .0, k .1) (ap (λ (l : List Reply). reply image h e ∷ l) (run-replies (e ∷ h) es))
+
+  -- the events in the order of a history, the latest first
+  abbrev pub behind : List Event → List Event → List Event
+  behind h [] = h
+  behind h (e ∷ es) = behind (e ∷ h) es
+
+  pub run-leaves : (h es : List Event) → after (tables image) (known image h) es ≡ known image (behind h es)
+  run-leaves h [] = refl
+  run-leaves h (e ∷ es) = rw (step-known image s h e .1) (run-leaves (e ∷ h) es)
+
+-- ---- a good image is sound, and its load is the run that no event has touched
+
+arm-free : (base : ℕ) (routed ids : List ℕ) → Each (ProtectedOk base routed) ids → member base ids ≡ false
+arm-free base routed [] h = refl
+arm-free base routed (x ∷ ids) h = simp (ne-eqb base x (λ e. h .0 .not-arm (sym e)), arm-free base routed ids (h .1))
+
+rows-rise : (image : List Record) → Rising 0 (map faultId (tables image .rows)) → Rising 0 (map (λ r. r .row .id) (rows image))
+unfolding tablesOfRecords
+rows-rise image h = rw (map-then (λ (r : Row). r .row .id) rowOf (ofKind 4 image)) (rw (map-then faultId rowIn (ofKind 4 image)) at h)
+
+module _ (image : List ℕ) (z : loadOf image .answer ≡ 0) where
+  abbrev records : List Record
+  records = recordsOf image
+
+  pub sound : Sound records
+  sound =
+      let r = loads-good image z .rules in
+      record {
+        free = arm-free (tables records .base) _ (tables records .protected) (r .protected-ok);
+        distinct = rising-distinct 0 (rows records) (rows-rise records (r .rows-rise));
+      }
+
+  fresh : loadOf image .run ≡ known records []
+  unfolding startsOfRecords
+  fresh = loaded-run image z ∙ rw (map-then (stateOf records []) rowOf (ofKind 4 records))
+
+  -- the running path and the plain reading agree on every answer and every output byte
+  pub agree : (es : List Event) → run (tablesOf (loadOf image .config)) (loadOf image .run) es ≡ replies records [] es
+  agree es = rw (loaded-tables image z, fresh) (run-replies records sound [] es)
+
+  -- each counter is the number of its steps since the last completed reset, or since loading, modulo 65,536
+  pub counters : (es : List Event) → after (tablesOf (loadOf image .config)) (loadOf image .run) es .counts ≡ knownCounts records (behind records sound [] es)
+  counters es = rw (loaded-tables image z, fresh) (ap (λ (r : Run). r .counts) (run-leaves records sound [] es))
+
+-- ---- the arm rule, in the mission's words
+
+-- a protected command from an accepted packet is let past (gets any answer but 30) exactly when the nearest earlier accepted
+-- packet was a well-formed arm command, and its timeout was zero or fewer ticks than that timeout came between
+pub data LetPast (image : List Record) (h : List Event) : Type 0 where
+  armed-by : (p : List ℕ) → nearest h ≡ some p → isArm image p ≡ true → (timeout image p ≡ 0) ⊎ (ticksSince h < timeout image p) → LetPast image h
+
+module _ (image : List Record) (h : List Event) where
+  pub past-armed : LetPast image h → armed image h ≡ true
+  past-armed (armed-by p n a (inl z)) = rw n (simp (a, eq-eqb _ _ z))
+  past-armed (armed-by p n a (inr l)) = rw n (simp (a, lt-ltb _ _ l) (or-true (eqb (timeout image p) 0)))
+
+  pub armed-past : armed image h ≡ true → LetPast image h
+  armed-past e = go (nearest h) refl e
+    where
+      go : (o : Option (List ℕ)) → nearest h ≡ o → lasts image o (ticksSince h) ≡ true → LetPast image h
+      go none n q = absurd (false≢true q)
+      go (some p) n q =
+          let b = both (isArm image p) (eqb (timeout image p) 0 || ltb (ticksSince h) (timeout image p)) q in
+          armed-by p n (b .0) (either (eqb (timeout image p) 0) refl (b .1))
+        where
+          either : (z : Bool) → eqb (timeout image p) 0 ≡ z → (eqb (timeout image p) 0 || ltb (ticksSince h) (timeout image p)) ≡ true → (timeout image p ≡ 0) ⊎ (ticksSince h < timeout image p)
+          either true e q = inl (eqb-true _ _ e)
+          either false e q = inr (ltb-true _ _ (simp e at q))
+
+  module _ (p : List ℕ) (a : accepted p ≡ true) (m : member (commandId p) (tables image .protected) ≡ true) where
+    answer-of : (n : ℕ) → packetReply image p n .answer ≡ n
+    answer-of n = go (eqb n 10) refl
+      where
+        go : (b : Bool) → eqb n 10 ≡ b → packetReply image p n .answer ≡ n
+        go true e = simp e (sym (eqb-true n 10 e))
+        go false e = simp e
+
+    -- past the protection no answer is 30
+    no-30 : (o x y w r : Bool) → eqb (cond o (cond x (cond y 32 (cond w 11 12)) 31) (cond r 10 33)) 30 ≡ false
+    no-30 true true true w r = refl
+    no-30 true true false true r = refl
+    no-30 true true false false r = refl
+    no-30 true false y w r = refl
+    no-30 false x y w true = refl
+    no-30 false x y w false = refl
+
+    pub let-past : LetPast image h → reply image h (packet p) .answer ≡ 30 → ⊥
+    let-past l e =
+        let n : packetAnswer image h p ≡ 30 = sym (answer-of (packetAnswer image h p)) ∙ (rw a at e) in
+        let k = selects image p in
+        let args = argumentsOf p in
+        let unknown = namesFault k && not (member (faultNamed args) (map faultId (tables image .rows))) in
+        let z = no-30 (own (tables image .base) (commandId p)) (eqb (length args) (wanted k)) unknown (eqb k 0) (member (commandId p) (routed (tables image))) in
+        false≢true (sym z ∙ eq-eqb _ 30 (simp (m, past-armed l) at n))
+
+    pub not-past : (LetPast image h → ⊥) → reply image h (packet p) .answer ≡ 30
+    not-past l = go (armed image h) refl
+      where
+        go : (b : Bool) → armed image h ≡ b → reply image h (packet p) .answer ≡ 30
+        go true e = absurd (l (armed-past e))
+        go false e = simp (a, m, e)
