@@ -1,6 +1,5 @@
 // The path's own commands: which one an id selects, what it takes, and its answer.
 ghost use mathlib.Core.Path.{_≡_};
-ghost use Prim.Native.Nat.{_≤_};
 ghost use lib.ListN.{take};
 ghost use Rattle.state.specs.Lookup.{Column};
 ghost use Rattle.answers.specs.Own.{ownNumber, argsWanted, onRow, faultArg};

@@ -1,10 +1,9 @@
 -- The ways of a tick, one law each.
-use mathlib.Core.Path.{_≡_, refl}
+use mathlib.Core.Path.{_≡_}
 use mathlib.Core.Bool.{Bool, true, false, not, _&&_}
 use Prim.Native.Nat.{ℕ, _-_}
 use lib.Dec.{eqb}
 use borrow.Author.Tests.{eq-eqb, ne-eqb}
-use Rattle.state.specs.declared.types.Arm.{Arm}
 use Rattle.effects.specs.Arming.{unarmed, armedFor, ticked}
 
 module _ (armed : Bool) (ticks : ℕ) where

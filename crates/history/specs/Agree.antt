@@ -6,7 +6,6 @@ use mathlib.Core.Logic.{_⊎_, inl, inr}
 use mathlib.Core.Option.{Option, none, some}
 use mathlib.Core.List.{List, [], _∷_, map}
 use Prim.Native.Nat.{ℕ, _<_}
-use native.Mathlib.Omega.{arith}
 use lib.Dec.{eqb, ltb}
 use lib.ListN.{length}
 use borrow.Author.Tests.{eq-eqb, ne-eqb, lt-ltb, eqb-true, ltb-true}
@@ -20,7 +19,7 @@ use Rattle.answers.specs.OwnLaws.{both}
 use Rattle.image.specs.Records.{Record, recordsOf}
 use Rattle.image.specs.Image.{ofKind, rowIn, tablesOfRecords, startsOfRecords, loadOf}
 use Rattle.image.specs.Theorems.{loads-good, loaded-tables, loaded-run}
-use Rattle.history.specs.Plain.{Event, packet, wanted, namesFault, faultNamed, selects, nearest, ticksSince, isArm, timeout, lasts, armed, accepted, packetAnswer, packetReply, stopped, Reply, Row, rowOf, tables, rows, stateOf, reply, replies}
+use Rattle.history.specs.Plain.{Event, packet, wanted, namesFault, faultNamed, selects, nearest, ticksSince, isArm, timeout, lasts, armed, accepted, packetAnswer, packetReply, Reply, Row, rowOf, tables, rows, stateOf, reply, replies}
 use Rattle.history.specs.Path.{run, after}
 use Rattle.history.specs.Known.{known, knownCounts}
 use Rattle.history.specs.RowsLaws.{rising-distinct, map-then}

@@ -2,18 +2,18 @@
 use mathlib.Core.Path.{_≡_, refl, sym, ap, _∙_}
 use mathlib.Core.Bool.{Bool, true, false, cond, not, _&&_, _||_, false≢true}
 use mathlib.Core.List.{List, map}
-use Prim.Native.Nat.{ℕ, zero, suc, _+_, _-_, _<_, _≤_}
+use Prim.Native.Nat.{ℕ, zero, suc, _-_}
 use native.Mathlib.Omega.{arith}
 use lib.Dec.{eqb, ltb, eqb·suc-zero}
-use lib.ListN.{length, getD}
-use borrow.Author.Tests.{lt-ltb, eqb-true, eqb-false, eq-eqb, ne-eqb}
+use lib.ListN.{length}
+use borrow.Author.Tests.{lt-ltb, ne-eqb}
 use Rattle.packet.specs.Layout.{commandId}
-use Rattle.packet.specs.Judge.{check, refusalOf, argumentsOf}
+use Rattle.packet.specs.Judge.{check, argumentsOf}
 use Rattle.state.specs.Tables.{Tables, faultId, routed}
 use Rattle.state.specs.Rules.{own, member}
 use Rattle.image.specs.Records.{Record}
 use Rattle.effects.specs.Dispatch.{destOf}
-use Rattle.answers.specs.Own.{ownNumber, argsWanted, onRow, faultArg}
+use Rattle.answers.specs.Own.{ownNumber}
 use Rattle.answers.specs.OwnLaws.{both, own-range}
 use Rattle.answers.specs.Answers.{blocked, routeAnswer, answerFor, answerTo}
 use Rattle.answers.specs.Answers as steps

@@ -1,6 +1,6 @@
 -- A step of the running path takes the run that a history leaves to the run that the history with one event more leaves, and
 -- its reply is the plain reading's.
-use mathlib.Core.Path.{_≡_, refl, sym, ap, ap₂, _∙_}
+use mathlib.Core.Path.{_≡_, refl, sym, ap, _∙_}
 use mathlib.Core.Bool.{Bool, true, false, cond, not, _&&_, _||_}
 use mathlib.Core.List.{List, [], _∷_, _++_, map}
 use mathlib.Core.Option.{Option, none, some}
@@ -8,35 +8,31 @@ use mathlib.Core.Logic.{_⊎_, inl, inr}
 use Prim.Native.Nat.{ℕ, zero, suc, _+_, _-_, _%_, _<_, _≤_}
 use native.Mathlib.Nat.{mod-add-mod, sub-zero, zero-sub}
 use native.Mathlib.Omega.{arith}
-use lib.Dec.{eqb, ltb, leb, lit<}
-use lib.ListN.{length, getD, replicate, length-map}
-use borrow.Author.Tests.{lt-ltb, le-ltb, eq-eqb, ne-eqb, eqb-true, eqb-false, leb-true}
+use lib.Dec.{eqb, ltb, lit<}
+use lib.ListN.{length, replicate, length-map}
+use borrow.Author.Tests.{lt-ltb, le-ltb, ne-eqb, eqb-true, eqb-false}
 use Rattle.packet.specs.Layout.{commandId}
 use Rattle.packet.specs.Judge.{check, refusalOf, argumentsOf}
 use Rattle.packet.specs.Laws.{outcome}
 use Rattle.state.specs.declared.types.Arm.{Arm}
-use Rattle.state.specs.declared.types.Counts.{Counts}
 use Rattle.state.specs.declared.types.Run.{Run}
-use Rattle.state.specs.Tables.{FaultRow, Tables, faultId, padded}
+use Rattle.state.specs.Tables.{faultId, padded}
 use Rattle.state.specs.Rules.{member}
 use Rattle.image.specs.Records.{Record}
-use Rattle.image.specs.Image.{ofKind, rowIn, tablesOfRecords}
-use Rattle.effects.specs.FaultStates.{enable, disable, clear, rowAfter, actOn, clearAll, rowFor, stateFor}
-use Rattle.effects.specs.Arming.{unarmed, armedFor, fullTime, armAfter, ticked, tickAnswer}
-use Rattle.effects.specs.Counters.{up, noCounts, packetCounts, rejectedCounts, faultCounts}
-use Rattle.effects.specs.Dispatch.{for10, destOf}
+use Rattle.image.specs.Image.{ofKind, tablesOfRecords}
+use Rattle.effects.specs.FaultStates.{rowAfter, actOn, rowFor, stateFor}
+use Rattle.effects.specs.Arming.{unarmed, armedFor, armAfter, ticked, tickAnswer}
+use Rattle.effects.specs.Counters.{up, packetCounts, rejectedCounts, faultCounts}
 use Rattle.effects.specs.RowLaws.{not-fault}
-use Rattle.answers.specs.Own.{ownNumber, onRow, eventOf, faultArg}
+use Rattle.answers.specs.Own.{onRow, eventOf}
 use Rattle.answers.specs.OwnLaws.{row-range}
-use Rattle.answers.specs.Answers.{answerTo}
 use Rattle.answers.specs.Answers as steps
 use Rattle.effects.specs.FaultStates as events
-use Rattle.steps.specs.declared.types.Stepped.{Stepped}
 use Rattle.steps.specs.Step.{statesAfter, acted, acceptedStep, rejectedStep, packetStep, tickStep, faulted, faultStep}
 use Rattle.steps.specs.StepLaws.{packet-rejected, packet-accepted}
 use Rattle.steps.specs.Demand1.{refused-range}
-use Rattle.history.specs.Plain.{rowNamed, Event, packet, tick, fault, Reply, bare, accepted, nearest, ticksSince, Row, rowOf, whenEnabled, whenCleared, whenFaulted, faultAnswer, faultReply, more, tables, rows, selects, isArm, timeout, lasts, armed, packetAnswer, done, told, stateOf, faultNamed, packetReply, reply, count, movesA, movesR, movesD, movesP, movesU, movesI, movesF}
-use Rattle.history.specs.Path.{step, replyOf, bytesFor}
+use Rattle.history.specs.Plain.{rowNamed, Event, packet, tick, fault, accepted, nearest, ticksSince, Row, rowOf, whenEnabled, whenCleared, whenFaulted, faultAnswer, faultReply, more, tables, rows, selects, isArm, timeout, lasts, armed, packetAnswer, done, stateOf, faultNamed, packetReply, reply}
+use Rattle.history.specs.Path.{step, replyOf}
 use Rattle.history.specs.Known.{left, knownCounts, known}
 use Rattle.history.specs.RowsLaws.{plainRow, Distinct, map-same, map-then, act-known, clear-known, row-named, fault-answer, fault-known}
 use Rattle.history.specs.AnswersLaws.{selects-is, answer-is, arm-answer}

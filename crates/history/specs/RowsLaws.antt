@@ -1,14 +1,14 @@
 -- Fault rows in a list: an event on the first row of an id is an event on each row of that id, where no two rows have one id;
 -- and the states of unused rows stay zero.
 use mathlib.Core.Path.{_≡_, refl, sym, ap, ap₂, _∙_}
-use mathlib.Core.Bool.{Bool, true, false, cond, not, _&&_}
+use mathlib.Core.Bool.{Bool, true, false, cond}
 use mathlib.Core.List.{List, [], _∷_, _++_, map}
-use Prim.Native.Nat.{ℕ, zero, suc, _+_, _-_, _<_, _≤_}
+use Prim.Native.Nat.{ℕ, zero, suc, _+_, _-_, _<_}
 use native.Mathlib.Omega.{arith}
 use lib.Dec.{eqb}
-use lib.ListN.{length, replicate, length-map}
-use borrow.Author.Tests.{eq-eqb, ne-eqb, eqb-true}
-use Rattle.state.specs.Tables.{FaultRow, faultId, padded}
+use lib.ListN.{replicate}
+use borrow.Author.Tests.{ne-eqb, eqb-true}
+use Rattle.state.specs.Tables.{FaultRow, faultId}
 use Rattle.state.specs.Rules.{member}
 use Rattle.state.specs.Keeps.{Rising}
 use Rattle.effects.specs.FaultStates.{clear, fault, nextState, rowAfter, actOn, clearAll, rowFor, stateFor}

@@ -2,8 +2,7 @@
 // The arrays of ids are lent, so that nothing is copied.
 ghost use mathlib.Core.Path.{_≡_};
 ghost use mathlib.Core.Bool.{_&&_};
-ghost use mathlib.Core.List.{List};
-ghost use Prim.Native.Nat.{ℕ, _+_, _≤_, _<_};
+ghost use Prim.Native.Nat.{_+_, _≤_, _<_};
 ghost use lib.ListN.{length, take, getD};
 ghost use Rattle.state.specs.Tables.{Tables};
 ghost use Rattle.state.specs.Rules.{member, floor, routeOk, rowOk, startOk};

@@ -1,15 +1,14 @@
 -- What callers use of the judge: the statements of `Outcome` fit the computed judge in both directions, the judge's two
 -- answers, and the enquiry's.
-use mathlib.Core.Path.{_≡_, refl, sym, ap, _∙_}
+use mathlib.Core.Path.{_≡_, refl, sym, _∙_}
 use mathlib.Core.List.{List, []}
 use mathlib.Core.Bool.{Bool, true, false}
-use Prim.Native.Nat.{ℕ, _+_, _-_, _≤_, _<_}
+use Prim.Native.Nat.{ℕ, _+_, _-_, _≤_}
 use native.Mathlib.Omega.{arith}
 use lib.ListN.{length}
 use lib.Dec.{leb, eqb}
 use borrow.Author.Tests.{leb-true, leb-false, eqb-true, eqb-false, le-leb, lt-leb, eq-eqb, ne-eqb}
 use Rattle.wire.specs.Xor.{xorAll}
-use Rattle.packet.specs.declared.judge.Judged.{Judged}
 use Rattle.packet.specs.Layout.{version, packetType, secondary, lengthField, dataLength, pads, commandId, argCount, argumentPart}
 use Rattle.packet.specs.Judge.{check, formChecks, formRefusal, refusalOf, judgeOf, argumentsOf, argumentsAt}
 use Rattle.packet.specs.Outcome.{Sized, Formed, Accepts, BadForm, not-version-0, not-telecommand, not-secondary, not-xor-0, Outcome, below-6, not-whole, bad-form, no-room, too-many, taken}

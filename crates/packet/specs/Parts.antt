@@ -1,6 +1,6 @@
 -- What acceptance means for the bytes of a packet: which of them are arguments, which are pads, and that the XOR has the
 -- pads in it; and that the high bit of the function code changes nothing.
-use mathlib.Core.Path.{_≡_, refl, sym, ap, ap₂, _∙_}
+use mathlib.Core.Path.{_≡_, refl, sym, _∙_}
 use mathlib.Core.Bool.{Bool, true, false}
 use mathlib.Core.List.{List, _++_}
 use Prim.Native.Nat.{ℕ, _+_, _-_, _%_, _≤_, _<_}
@@ -12,8 +12,8 @@ use lib.ListN.{length, getD, take, drop, length-take, length-drop, take-append-d
 use lib.Seq.{ext-getD, getD-drop, getD-take}
 use Rattle.wire.specs.Xor.{xorAll}
 use Rattle.wire.specs.XorLaws.{xor-append}
-use Rattle.packet.specs.Layout.{byte, dataLength, pads, argCount, argumentPart, padPart}
-use Rattle.packet.specs.Judge.{refusalOf, judgeOf, argumentsOf, argumentsAt}
+use Rattle.packet.specs.Layout.{byte, dataLength, pads, argCount, padPart}
+use Rattle.packet.specs.Judge.{refusalOf, judgeOf, argumentsOf}
 use Rattle.packet.specs.Outcome.{Accepts}
 use Rattle.packet.specs.Laws.{accepts, arguments-accepted, arguments-refused}
 

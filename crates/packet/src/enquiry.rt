@@ -3,8 +3,6 @@ use crate::judge;
 ghost use mathlib.Core.Path.{_≡_};
 ghost use Prim.Native.Nat.{_+_};
 ghost use denote.Ref.{ptr};
-ghost use lib.ListN.{take, drop};
-ghost use Rattle.packet.specs.Layout.{argCount};
 ghost use Rattle.packet.specs.Judge.{argumentsOf, argumentsAt};
 ghost use Rattle.packet.specs.Outcome.{Accepts};
 

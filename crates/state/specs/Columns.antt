@@ -1,13 +1,12 @@
 -- A state that keeps its rules has its ids in rising columns, and no fault state above 2: what lookups and steps ask.
-use mathlib.Core.Path.{_≡_, refl, sym, ap, _∙_}
 use mathlib.Core.List.{List, [], _∷_}
 use Prim.Native.Nat.{ℕ, zero, suc, _≤_}
 use native.Mathlib.Omega.{arith}
-use lib.ListN.{length, getD, take}
+use lib.ListN.{getD}
 use Rattle.state.specs.declared.types.Config.{Config}
 use Rattle.state.specs.declared.types.Run.{Run}
-use Rattle.state.specs.Tables.{FaultRow, tablesOf}
-use Rattle.state.specs.Keeps.{Clear, StatesOk, Rising, Rules, Keeps}
+use Rattle.state.specs.Tables.{FaultRow}
+use Rattle.state.specs.Keeps.{Clear, StatesOk, Keeps}
 use Rattle.state.specs.Sized.{Sized}
 use Rattle.state.specs.Lookup.{Column}
 use Rattle.state.specs.ArrayLaws.{routes-count, rows-count, routed-is, fault-ids-are}

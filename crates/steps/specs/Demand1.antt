@@ -1,19 +1,18 @@
 -- Demand 1 of the steps: what a refusal leaves as it was. Answers 20 and 21 change nothing at all; any answer but 10 changes
 -- no output byte; a rejected packet moves only R; a tick and a fault leave what they must.
-use mathlib.Core.Path.{_≡_, refl, sym, ap, _∙_}
-use mathlib.Core.Bool.{Bool, true, false}
+use mathlib.Core.Path.{_≡_, refl, sym}
+use mathlib.Core.Bool.{Bool}
 use mathlib.Core.List.{List}
-use Prim.Native.Nat.{ℕ, _+_, _%_, _≤_, _<_}
+use Prim.Native.Nat.{ℕ, _+_, _%_, _≤_}
 use native.Mathlib.Omega.{arith}
 use lib.Dec.{lit≤}
 use Rattle.packet.specs.Outcome.{Outcome, BadForm, not-version-0, not-telecommand, not-secondary, not-xor-0, below-6, not-whole, bad-form, no-room, too-many, taken}
 use Rattle.state.specs.declared.types.Config.{Config}
 use Rattle.state.specs.declared.types.Run.{Run}
 use Rattle.state.specs.declared.types.Counts.{Counts}
-use Rattle.state.specs.Tables.{Tables, tablesOf}
+use Rattle.state.specs.Tables.{Tables}
 use Rattle.steps.specs.declared.types.Stepped.{Stepped}
 use Rattle.effects.specs.Counters.{rejectedCounts}
-use Rattle.effects.specs.Dispatch.{sent}
 use Rattle.effects.specs.DispatchLaws.{sent-not}
 use Rattle.steps.specs.Step.{packetOutput, packetStepOf, faultOutput, faultStepOf, tickStep, tickStepOf, rejectedStep}
 use Rattle.steps.specs.Outcome.{Answered, stopped, miscounted, no-row, row-done, arm-taken, own-done, no-route, goes, Faulted, unlisted, quiet, responds, PacketSteps, packet-steps, FaultSteps, fault-steps, TickSteps, tick-steps}

@@ -1,17 +1,16 @@
 -- Demand 2 of the steps: accepted exactly when the rules say so, else the first refusal in their order; and a command sent on
 -- carries exactly the id and argument bytes of its packet or fault row, its source, and the destination of its route.
 use mathlib.Core.Path.{_≡_, refl, sym, ap, _∙_}
-use mathlib.Core.Bool.{Bool, true, false, false≢true}
-use mathlib.Core.List.{List, [], _∷_, _++_, map}
-use Prim.Native.Nat.{ℕ, _+_, _*_, _/_, _%_, _≤_, _<_}
+use mathlib.Core.Bool.{true, false, false≢true}
+use mathlib.Core.List.{List, map}
+use Prim.Native.Nat.{ℕ, _+_, _*_, _≤_}
 use native.Mathlib.Omega.{arith}
 use lib.ListN.{length, getD, take, drop}
 use lib.Seq.{take-append-seam, drop-at}
-use borrow.Author.Tests.{eq-eqb}
 use Rattle.packet.specs.Layout.{commandId}
-use Rattle.packet.specs.Judge.{refusalOf, argumentsOf}
+use Rattle.packet.specs.Judge.{argumentsOf}
 use Rattle.packet.specs.Outcome.{Outcome, Accepts}
-use Rattle.packet.specs.Laws.{outcome, only, accepted}
+use Rattle.packet.specs.Laws.{only, accepted}
 use Rattle.state.specs.declared.types.Config.{Config}
 use Rattle.state.specs.declared.types.Run.{Run}
 use Rattle.state.specs.Tables.{Tables, faultId, routed, tablesOf}
@@ -19,11 +18,11 @@ use Rattle.state.specs.Rules.{member}
 use Rattle.state.specs.Test.{keepsRules}
 use Rattle.steps.specs.declared.types.Stepped.{Stepped}
 use Rattle.effects.specs.FaultStates.{enabled, rowFor, stateFor}
-use Rattle.effects.specs.Dispatch.{commandBytes, over, sent, destOf}
+use Rattle.effects.specs.Dispatch.{commandBytes, sent, destOf}
 use Rattle.effects.specs.DispatchLaws.{sent-10}
 use Rattle.answers.specs.Answers.{blocked}
-use Rattle.steps.specs.Step.{packetOutput, packetStepOf, faultOutput, faultStepOf, faultStep, faulted, rejectedStep}
-use Rattle.steps.specs.Outcome.{Answered, stopped, miscounted, no-row, row-done, arm-taken, own-done, no-route, goes, Faulted, unlisted, quiet, responds, PacketSteps, packet-steps, FaultSteps, fault-steps}
+use Rattle.steps.specs.Step.{packetOutput, packetStepOf, faultOutput, faultStepOf, faultStep, rejectedStep}
+use Rattle.steps.specs.Outcome.{stopped, miscounted, no-row, row-done, arm-taken, own-done, no-route, goes, unlisted, quiet, responds, PacketSteps, packet-steps, FaultSteps, fault-steps}
 use Rattle.steps.specs.Outcome as outcomes
 use Rattle.steps.specs.Demand1.{refused-range, answered-range}
 

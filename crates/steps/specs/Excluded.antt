@@ -1,24 +1,23 @@
 -- Document 01, "Readings that the rules exclude": a theorem for each line, against the reading that it shuts out.
-use mathlib.Core.Path.{_≡_, refl, sym, ap, _∙_}
-use mathlib.Core.Bool.{Bool, true, false}
+use mathlib.Core.Path.{_≡_, sym, ap}
+use mathlib.Core.Bool.{true, false}
 use mathlib.Core.List.{List}
-use Prim.Native.Nat.{ℕ, _+_, _-_, _≤_, _<_}
+use Prim.Native.Nat.{ℕ, _+_, _-_, _≤_}
 use native.Mathlib.Omega.{arith}
 use lib.Bits.{bitXor}
 use lib.ListN.{length, take}
 use borrow.Author.Tests.{ne-eqb}
 use Rattle.wire.specs.Xor.{xorAll}
-use Rattle.packet.specs.Layout.{commandId, dataLength, pads, padPart}
+use Rattle.packet.specs.Layout.{dataLength, pads, padPart}
 use Rattle.packet.specs.Judge.{argumentsOf}
 use Rattle.packet.specs.Outcome.{Accepts}
 use Rattle.packet.specs.Parts.{argument-count, xor-with-pads}
 use Rattle.state.specs.declared.types.Config.{Config}
 use Rattle.state.specs.declared.types.Run.{Run}
-use Rattle.state.specs.Tables.{Tables, tablesOf}
-use Rattle.state.specs.Rules.{member}
+use Rattle.state.specs.Tables.{Tables}
 use Rattle.steps.specs.declared.types.Stepped.{Stepped}
-use Rattle.effects.specs.Arming.{unarmed, armedFor, armAfter, ticked, tickAnswer}
-use Rattle.effects.specs.ArmingLaws.{tick-last, tick-one}
+use Rattle.effects.specs.Arming.{unarmed, armAfter, tickAnswer}
+use Rattle.effects.specs.ArmingLaws.{tick-last}
 use Rattle.answers.specs.Answers.{blocked, answerTo}
 use Rattle.steps.specs.Step.{packetStepOf, faultStepOf, rejectedStep, tickStep}
 use Rattle.steps.specs.Outcome.{only, stopped, PacketSteps, packet-steps}

@@ -1,28 +1,22 @@
 -- The parts that make up a fault step: a fault that sends nothing on, and a response that is dispatched.
-use mathlib.Core.Path.{_≡_, refl, sym, ap, _∙_}
-use mathlib.Core.Bool.{Bool, true, false, cond}
+use mathlib.Core.Path.{_≡_, refl, ap, _∙_}
+use mathlib.Core.Bool.{true, false}
 use mathlib.Core.List.{List, map}
-use Prim.Native.Nat.{ℕ, _+_, _<_, _≤_}
-use native.Mathlib.Omega.{arith}
+use Prim.Native.Nat.{ℕ, _+_}
 use lib.Dec.{eqb}
-use lib.ListN.{length, getD, set, take}
-use borrow.Author.Tests.{eq-eqb, ne-eqb}
+use lib.ListN.{length}
 use Rattle.state.specs.declared.types.Run.{Run}
 use Rattle.state.specs.declared.types.Counts.{Counts}
-use Rattle.state.specs.Tables.{FaultRow, Tables, faultId}
+use Rattle.state.specs.Tables.{Tables, faultId}
 use Rattle.state.specs.Rules.{member}
-use Rattle.state.specs.Lookup.{placeIn}
-use Rattle.state.specs.LookupLaws.{found-member}
 use Rattle.steps.specs.declared.types.Stepped.{Stepped}
 use Rattle.steps.specs.Bare.{bareAnswer}
-use Rattle.effects.specs.FaultStates.{enabled, fault, rowAfter, actOn, noRow, rowFor, stateFor}
+use Rattle.effects.specs.FaultStates.{enabled, fault, actOn, rowFor, stateFor}
 use Rattle.effects.specs.Counters.{faultCounts}
-use Rattle.effects.specs.Dispatch.{commandBytes, over, sent, for10, destOf}
+use Rattle.effects.specs.Dispatch.{commandBytes, over, sent, destOf}
 use Rattle.effects.specs.DispatchLaws.{sent-10}
-use Rattle.answers.specs.Answers.{faultAnswer}
 use Rattle.answers.specs.AnswerLaws.{fault-34, fault-13, fault-10}
-use Rattle.effects.specs.RowLaws.{row-at, state-at, act-at}
-use Rattle.steps.specs.Step.{faulted, faultStep, faultOutput}
+use Rattle.steps.specs.Step.{faultStep, faultOutput}
 
 unfoldable pub silentStep : Run → ℕ → Stepped
 silentStep run n =

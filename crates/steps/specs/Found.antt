@@ -1,6 +1,6 @@
 -- What a lookup in the tables of a state that keeps its rules says of the fault id that was looked up: the row at its place,
 -- its state, its argument bytes, and what an event on it stores.
-use mathlib.Core.Path.{_≡_, refl, sym, ap, _∙_}
+use mathlib.Core.Path.{_≡_, sym, _∙_}
 use mathlib.Core.Bool.{true, false}
 use mathlib.Core.List.{List, [], _∷_, map}
 use Prim.Native.Nat.{ℕ, zero, suc, _+_, _*_, _<_, _≤_}
@@ -8,12 +8,12 @@ use native.Mathlib.Omega.{arith}
 use lib.ListN.{length, getD, set, take}
 use Rattle.state.specs.declared.types.Config.{Config}
 use Rattle.state.specs.declared.types.Run.{Run}
-use Rattle.state.specs.Tables.{FaultRow, faultId, routed, listed, rowAt, tablesOf}
+use Rattle.state.specs.Tables.{FaultRow, faultId, routed, rowAt, tablesOf}
 use Rattle.state.specs.Rules.{member}
 use Rattle.state.specs.Keeps.{Each, RowOk, Keeps}
 use Rattle.state.specs.KeepsLaws.{few-counted, member-kept}
 use Rattle.state.specs.Sized.{Sized, SizedRun}
-use Rattle.state.specs.Lookup.{placeIn, Column}
+use Rattle.state.specs.Lookup.{placeIn}
 use Rattle.state.specs.LookupLaws.{is-member, no-member}
 use Rattle.state.specs.ArrayLaws.{rows-count, fault-ids-are, routed-is}
 use Rattle.state.specs.Columns.{route-column, protected-column, fault-column}

@@ -1,12 +1,11 @@
 -- The answers read as statements: what each answer to an accepted packet, to a fault and to any step says, in both directions.
-use mathlib.Core.Path.{_≡_, refl, sym, ap, _∙_}
+use mathlib.Core.Path.{_≡_, refl, _∙_}
 use mathlib.Core.Bool.{Bool, true, false}
 use mathlib.Core.List.{List, map}
-use Prim.Native.Nat.{ℕ, _+_, _<_, _≤_}
-use native.Mathlib.Omega.{arith}
+use Prim.Native.Nat.{ℕ, _<_, _≤_}
 use lib.Dec.{eqb, leb, ltb}
 use lib.ListN.{length}
-use borrow.Author.Tests.{eqb-true, eqb-false, ltb-true, ltb-false, leb-true, leb-false, le-leb, lt-leb}
+use borrow.Author.Tests.{eqb-true, eqb-false, ltb-true, ltb-false, leb-true, leb-false}
 use Rattle.packet.specs.Layout.{commandId}
 use Rattle.packet.specs.Judge.{refusalOf, argumentsOf}
 use Rattle.packet.specs.Outcome.{Outcome, Accepts}
@@ -23,7 +22,7 @@ use Rattle.answers.specs.Own.{ownNumber, argsWanted, onRow, faultArg}
 use Rattle.answers.specs.Answers.{blocked, routeAnswer, answerTo, faultAnswer}
 use Rattle.answers.specs.OwnLaws.{own-31, own-32, own-row, own-arm, own-other}
 use Rattle.answers.specs.AnswerLaws.{answer-30, answer-own, answer-route, fault-34, fault-13, fault-10}
-use Rattle.steps.specs.Step.{acted, acceptedStep, rejectedStep, packetStep, packetStepOf, faulted, faultStep, faultStepOf, tickStep, tickStepOf}
+use Rattle.steps.specs.Step.{acted, acceptedStep, rejectedStep, packetStepOf, faulted, faultStep, faultStepOf, tickStep, tickStepOf}
 use Rattle.steps.specs.StepLaws.{packet-rejected, packet-accepted}
 
 -- ---- an accepted packet: the first condition that holds, in the paper's order

@@ -1,11 +1,11 @@
 -- A step keeps the rules of the state: so a loop may judge its state once and go on with the inner steps.
-use mathlib.Core.Path.{_≡_, refl, sym, ap, _∙_}
+use mathlib.Core.Path.{_≡_, refl}
 use mathlib.Core.Bool.{Bool, true, false, cond, not, _&&_}
-use mathlib.Core.List.{List, [], _∷_, map}
+use mathlib.Core.List.{List, [], _∷_}
 use Prim.Native.Nat.{ℕ, zero, suc, _+_, _-_, _≤_, _<_}
 use native.Mathlib.Omega.{arith}
 use lib.Dec.{eqb, lit≤}
-use lib.ListN.{length, getD, take, drop}
+use lib.ListN.{getD, take, drop}
 use lib.Seq.{getD-take, getD-drop}
 use borrow.Author.Tests.{eqb-true, eqb-false}
 use Rattle.packet.specs.Layout.{argCount, commandId}
@@ -16,7 +16,7 @@ use Rattle.state.specs.declared.types.Config.{Config}
 use Rattle.state.specs.declared.types.Run.{Run}
 use Rattle.state.specs.declared.types.Arm.{Arm}
 use Rattle.state.specs.Tables.{FaultRow, Tables, tablesOf}
-use Rattle.state.specs.Keeps.{Clear, StateOk, StatesOk, ArmOk, RunOk, Keeps, mostTicks}
+use Rattle.state.specs.Keeps.{Clear, StateOk, StatesOk, ArmOk, RunOk, Keeps}
 use Rattle.effects.specs.FaultStates.{disabled, enabled, latched, enable, disable, clear, fault, nextState, rowAfter, actOn, clearAll}
 use Rattle.answers.specs.Own.{onRow, eventOf, faultArg}
 use Rattle.effects.specs.Arming.{unarmed, armedFor, fullTime, armAfter, ticked}

@@ -1,16 +1,16 @@
 -- The fault states after an own command, said of the fault ids alone: enable, disable and clear do not ask whether a row
 -- latches, so the code needs no more of the table; and that this is what the step says of the rows.
-use mathlib.Core.Path.{_≡_, refl, sym, ap, _∙_}
+use mathlib.Core.Path.{_≡_, refl, sym}
 use mathlib.Core.Bool.{Bool, true, false, cond}
 use mathlib.Core.List.{List, [], _∷_, map}
-use Prim.Native.Nat.{ℕ, suc, _-_, _<_, _≤_}
+use Prim.Native.Nat.{ℕ, _-_, _<_, _≤_}
 use native.Mathlib.Omega.{arith}
 use lib.Dec.{eqb}
 use lib.ListN.{length, getD, set}
 use borrow.Author.Tests.{eq-eqb, ne-eqb}
 use Rattle.state.specs.Tables.{FaultRow, faultId}
 use Rattle.state.specs.Lookup.{placeIn}
-use Rattle.effects.specs.FaultStates.{fault, nextState, rowAfter, actOn, clearAll}
+use Rattle.effects.specs.FaultStates.{fault, nextState, actOn, clearAll}
 use Rattle.answers.specs.Own.{onRow, eventOf, faultArg}
 use Rattle.steps.specs.Step.{statesAfter}
 use Rattle.answers.specs.OwnLaws.{row-range}

@@ -1,5 +1,5 @@
 -- Document 01, "Steps and what they return": the three steps, on a state that keeps its rules and on any state whatever.
-use mathlib.Core.Bool.{Bool, true, false, cond, _&&_}
+use mathlib.Core.Bool.{cond}
 use mathlib.Core.List.{List}
 use Prim.Native.Nat.{ℕ, _+_}
 use lib.Dec.{eqb, leb}

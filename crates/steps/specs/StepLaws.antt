@@ -1,12 +1,11 @@
 -- Laws of the three steps: the parts that make one up, and each way on any state.
-use mathlib.Core.Path.{_≡_, refl, sym, ap, _∙_}
-use mathlib.Core.Bool.{Bool, true, false, cond}
+use mathlib.Core.Path.{_≡_, refl, ap}
+use mathlib.Core.Bool.{true, false}
 use mathlib.Core.List.{List, map}
 use Prim.Native.Nat.{ℕ, _+_, _<_, _≤_}
-use native.Mathlib.Omega.{arith}
 use lib.Dec.{eqb}
 use lib.ListN.{length}
-use borrow.Author.Tests.{eq-eqb, ne-eqb, le-leb, lt-leb}
+use borrow.Author.Tests.{ne-eqb, le-leb, lt-leb}
 use Rattle.packet.specs.Layout.{commandId}
 use Rattle.packet.specs.Judge.{refusalOf, argumentsOf}
 use Rattle.packet.specs.Outcome.{Outcome, BadForm, not-version-0, not-telecommand, not-secondary, not-xor-0, below-6, not-whole, bad-form, no-room, too-many, taken}
@@ -18,7 +17,7 @@ use Rattle.state.specs.declared.types.Counts.{Counts}
 use Rattle.state.specs.Tables.{Tables, faultId, routed, tablesOf}
 use Rattle.state.specs.Test.{keepsRules}
 use Rattle.steps.specs.declared.types.Stepped.{Stepped}
-use Rattle.steps.specs.Bare.{bareAnswer, unchanged}
+use Rattle.steps.specs.Bare.{unchanged}
 use Rattle.answers.specs.Own.{ownNumber}
 use Rattle.effects.specs.Arming.{armAfter}
 use Rattle.effects.specs.Counters.{packetCounts}

@@ -10,7 +10,7 @@ use state::types::Run;
 ghost use mathlib.Core.Path.{_≡_};
 ghost use Prim.Native.Nat.{ℕ, _≤_};
 ghost use lib.ListN.{length, getD, take};
-ghost use Rattle.state.specs.Tables.{tablesOf, listed, rowAt};
+ghost use Rattle.state.specs.Tables.{tablesOf};
 ghost use Rattle.state.specs.Lookup.{Column};
 ghost use Rattle.state.specs.Keeps.{Keeps};
 ghost use Rattle.steps.specs.Step.{rejectedStep, packetStep, packetOutput, packetStepOf};
