@@ -65,7 +65,7 @@ module _ (image : List ℕ) (z : loadOf image .answer ≡ 0) where
         distinct = rising-distinct 0 (rows records) (rows-rise records (r .rows-rise));
       }
 
-  fresh : loadOf image .run ≡ known records []
+  pub fresh : loadOf image .run ≡ known records []
   unfolding startsOfRecords
   fresh = loaded-run image z ∙ rw (map-then (stateOf records []) rowOf (ofKind 4 records))
 

@@ -5,3 +5,6 @@ pub mod RowsLaws
 pub mod AnswersLaws
 pub mod KnownLaws
 pub mod Agree
+pub mod Calls
+pub mod Wrap
+pub mod ShutOut

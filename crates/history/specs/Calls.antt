@@ -1,0 +1,122 @@
+-- Demand 3 for the public steps, which judge the state and the output room at each call: no call is ever refused with 20, and
+-- a call refused for room does nothing, so that leaving it out of the list is justified.
+use mathlib.Core.Path.{_≡_, refl, sym}
+use mathlib.Core.Bool.{Bool, true, false, cond, false≢true}
+use mathlib.Core.List.{List, [], _∷_}
+use Prim.Native.Nat.{ℕ}
+use lib.Dec.{leb}
+use Rattle.state.specs.declared.types.Config.{Config}
+use Rattle.state.specs.declared.types.Run.{Run}
+use Rattle.state.specs.Tables.{Tables, tablesOf}
+use Rattle.state.specs.Test.{keepsRules}
+use Rattle.state.specs.Keeps.{Keeps}
+use Rattle.state.specs.KeepsLaws.{kept, keeps}
+use Rattle.steps.specs.declared.types.Stepped.{Stepped}
+use Rattle.steps.specs.Bare.{unchanged}
+use Rattle.steps.specs.Step.{packetStepOf, tickStepOf, faultStepOf}
+use Rattle.steps.specs.RulesKept.{Bytes, packet-keeps, tick-keeps, fault-keeps}
+use Rattle.image.specs.Records.{Record, recordsOf}
+use Rattle.image.specs.Image.{loadOf}
+use Rattle.image.specs.Theorems.{loaded-tables, loaded-keeps}
+use Rattle.history.specs.Plain.{Event, packet, tick, fault, Reply, bare, tables, reply}
+use Rattle.history.specs.Path.{step, replyOf}
+use Rattle.history.specs.Known.{known}
+use Rattle.history.specs.KnownLaws.{step-known}
+use Rattle.history.specs.Agree.{sound, fresh}
+
+-- ---- calls
+
+-- an event, and how many bytes its output may take
+pub record Call : Type 0 where
+  pub event : Event
+  pub room : ℕ
+
+-- a tick writes nothing and asks for no room
+abbrev pub roomy : Event → ℕ → Bool
+roomy (packet p) room = leb 260 room
+roomy tick room = true
+roomy (fault f) room = leb 260 room
+
+-- the public step
+abbrev pub stepOf : Config → Run → Event → ℕ → Stepped
+stepOf c run (packet p) room = packetStepOf c run p room
+stepOf c run tick room = tickStepOf c run
+stepOf c run (fault f) room = faultStepOf c run f room
+
+-- a list of calls: the replies one after the other
+abbrev pub calls : Config → Run → List Call → List Reply
+calls c s [] = []
+calls c s (x ∷ xs) =
+    replyOf (tablesOf c) (x .event) (stepOf c s (x .event) (x .room)) ∷ calls c (stepOf c s (x .event) (x .room) .run) xs
+
+-- the plain reading of it: 21 where the room is short, and no later answer knows of that call
+abbrev pub callReplies : List Record → List Event → List Call → List Reply
+callReplies image h [] = []
+callReplies image h (x ∷ xs) =
+    cond (roomy (x .event) (x .room)) (reply image h (x .event) ∷ callReplies image (x .event ∷ h) xs) (bare 21 ∷ callReplies image h xs)
+
+-- the packets of the code are lists of bytes
+abbrev pub EventBytes : Event → Type 0
+EventBytes (packet p) = Bytes p
+EventBytes tick = Unit {0}
+EventBytes (fault f) = Unit {0}
+
+abbrev pub CallBytes : List Call → Type 0
+CallBytes [] = Unit {0}
+CallBytes (x ∷ xs) = EventBytes (x .event) × CallBytes xs
+
+-- ---- one call
+
+module _ (c : Config) (run : Run) (room : ℕ) (k : keepsRules c run ≡ true) where
+  -- a call refused for room does nothing
+  pub cramped : (e : Event) → roomy e room ≡ false → stepOf c run e room ≡ unchanged run 21
+  unfolding packetStepOf faultStepOf
+  cramped (packet p) l = simp (k, l)
+  cramped tick l = absurd (false≢true (sym l))
+  cramped (fault f) l = simp (k, l)
+
+  pub with-room : (e : Event) → roomy e room ≡ true → stepOf c run e room ≡ step (tablesOf c) run e
+  unfolding packetStepOf faultStepOf tickStepOf
+  with-room (packet p) l = simp (k, l)
+  with-room tick l = simp k
+  with-room (fault f) l = simp (k, l)
+
+step-keeps : {c : Config} {run : Run} → Keeps c run → (e : Event) → EventBytes e → Keeps c (step (tablesOf c) run e .run)
+step-keeps k (packet p) b = packet-keeps k p b
+step-keeps k tick b = tick-keeps k
+step-keeps k (fault f) b = fault-keeps k f
+
+silent : (t : Tables) (e : Event) (run : Run) → replyOf t e (unchanged run 21) ≡ bare 21
+silent t (packet p) run = refl
+silent t tick run = refl
+silent t (fault f) run = refl
+
+-- ---- every list of calls
+
+module _ (image : List ℕ) (z : loadOf image .answer ≡ 0) where
+  abbrev records : List Record
+  records = recordsOf image
+
+  abbrev config : Config
+  config = loadOf image .config
+
+  from : (h : List Event) (xs : List Call) → keepsRules config (known records h) ≡ true → CallBytes xs → calls config (known records h) xs ≡ callReplies records h xs
+  from h [] k b = refl
+  from h (x ∷ xs) k b = go (roomy (x .event) (x .room)) refl (from h xs k (b .1)) (λ n. from (x .event ∷ h) xs n (b .1))
+    where
+      e : Event
+      e = x .event
+
+      go : (r : Bool) → roomy (x .event) (x .room) ≡ r
+          → calls config (known records h) xs ≡ callReplies records h xs
+          → (keepsRules config (known records (x .event ∷ h)) ≡ true → calls config (known records (x .event ∷ h)) xs ≡ callReplies records (x .event ∷ h) xs)
+          → calls config (known records h) (x ∷ xs) ≡ callReplies records h (x ∷ xs)
+      go false l same next = rw (l, cramped config (known records h) (x .room) k e l, silent (tablesOf config) e (known records h), same)
+      go true l same next =
+          let s = step-known records (sound image z) h e in
+          let n : keepsRules config (step (tablesOf config) (known records h) e .run) ≡ true = kept _ _ (step-keeps (keeps _ _ k) e (b .0)) in
+          rw (l, with-room config (known records h) (x .room) k e l, loaded-tables image z, s .0, s .1, next (rw (loaded-tables image z, s .1) at n))
+
+  -- from the load on, the public steps and the plain reading agree on every answer and every output byte
+  pub calls-agree : (xs : List Call) → CallBytes xs → calls config (loadOf image .run) xs ≡ callReplies records [] xs
+  calls-agree xs b = rw (fresh image z) (from [] xs (rw (fresh image z) at (loaded-keeps image z)) b)
