@@ -1,6 +1,6 @@
 -- Demand 3 for the public steps, which judge the state and the output room at each call: no call is ever refused with 20, and
 -- a call refused for room does nothing, so that leaving it out of the list is justified.
-use mathlib.Core.Path.{_≡_, refl, sym}
+use mathlib.Core.Path.{_≡_, refl, sym, ap}
 use mathlib.Core.Bool.{Bool, true, false, cond, false≢true}
 use mathlib.Core.List.{List, [], _∷_}
 use Prim.Native.Nat.{ℕ}
@@ -20,7 +20,7 @@ use Rattle.image.specs.Image.{loadOf}
 use Rattle.image.specs.Theorems.{loaded-tables, loaded-keeps}
 use Rattle.history.specs.Plain.{Event, packet, tick, fault, Reply, bare, tables, reply}
 use Rattle.history.specs.Path.{step, replyOf}
-use Rattle.history.specs.Known.{known}
+use Rattle.history.specs.Known.{known, knownCounts}
 use Rattle.history.specs.KnownLaws.{step-known}
 use Rattle.history.specs.Agree.{sound, fresh}
 
@@ -54,6 +54,16 @@ abbrev pub callReplies : List Record → List Event → List Call → List Reply
 callReplies image h [] = []
 callReplies image h (x ∷ xs) =
     cond (roomy (x .event) (x .room)) (reply image h (x .event) ∷ callReplies image (x .event ∷ h) xs) (bare 21 ∷ callReplies image h xs)
+
+-- the run that the calls leave
+abbrev pub afterCalls : Config → Run → List Call → Run
+afterCalls c s [] = s
+afterCalls c s (x ∷ xs) = afterCalls c (stepOf c s (x .event) (x .room) .run) xs
+
+-- the events that had room, the latest first
+abbrev pub heard : List Event → List Call → List Event
+heard h [] = h
+heard h (x ∷ xs) = cond (roomy (x .event) (x .room)) (heard (x .event ∷ h) xs) (heard h xs)
 
 -- the packets of the code are lists of bytes
 abbrev pub EventBytes : Event → Type 0
@@ -100,23 +110,35 @@ module _ (image : List ℕ) (z : loadOf image .answer ≡ 0) where
   abbrev config : Config
   config = loadOf image .config
 
-  from : (h : List Event) (xs : List Call) → keepsRules config (known records h) ≡ true → CallBytes xs → calls config (known records h) xs ≡ callReplies records h xs
-  from h [] k b = refl
+  -- the same replies, and the run that the plain reading knows
+  abbrev Agrees : List Event → List Call → Type 0
+  Agrees h xs =
+      (calls config (known records h) xs ≡ callReplies records h xs) × (afterCalls config (known records h) xs ≡ known records (heard h xs))
+
+  from : (h : List Event) (xs : List Call) → keepsRules config (known records h) ≡ true → CallBytes xs → Agrees h xs
+  from h [] k b = (refl, refl)
   from h (x ∷ xs) k b = go (roomy (x .event) (x .room)) refl (from h xs k (b .1)) (λ n. from (x .event ∷ h) xs n (b .1))
     where
       e : Event
       e = x .event
 
-      go : (r : Bool) → roomy (x .event) (x .room) ≡ r
-          → calls config (known records h) xs ≡ callReplies records h xs
-          → (keepsRules config (known records (x .event ∷ h)) ≡ true → calls config (known records (x .event ∷ h)) xs ≡ callReplies records (x .event ∷ h) xs)
-          → calls config (known records h) (x ∷ xs) ≡ callReplies records h (x ∷ xs)
-      go false l same next = rw (l, cramped config (known records h) (x .room) k e l, silent (tablesOf config) e (known records h), same)
+      go : (r : Bool) → roomy (x .event) (x .room) ≡ r → Agrees h xs → (keepsRules config (known records (x .event ∷ h)) ≡ true → Agrees (x .event ∷ h) xs) → Agrees h (x ∷ xs)
+      go false l same next =
+          rw (l, cramped config (known records h) (x .room) k e l, silent (tablesOf config) e (known records h)) (ap (λ (rs : List Reply). bare 21 ∷ rs) (same .0), same .1)
       go true l same next =
           let s = step-known records (sound image z) h e in
           let n : keepsRules config (step (tablesOf config) (known records h) e .run) ≡ true = kept _ _ (step-keeps (keeps _ _ k) e (b .0)) in
-          rw (l, with-room config (known records h) (x .room) k e l, loaded-tables image z, s .0, s .1, next (rw (loaded-tables image z, s .1) at n))
+          let a = next (rw (loaded-tables image z, s .1) at n) in
+          rw (l, with-room config (known records h) (x .room) k e l, loaded-tables image z, s .0, s .1) (ap (λ (rs : List Reply). reply records h e ∷ rs) (a .0), a .1)
 
-  -- from the load on, the public steps and the plain reading agree on every answer and every output byte
-  pub calls-agree : (xs : List Call) → CallBytes xs → calls config (loadOf image .run) xs ≡ callReplies records [] xs
-  calls-agree xs b = rw (fresh image z) (from [] xs (rw (fresh image z) at (loaded-keeps image z)) b)
+  module _ (xs : List Call) (b : CallBytes xs) where
+    loaded : (calls config (loadOf image .run) xs ≡ callReplies records [] xs) × (afterCalls config (loadOf image .run) xs ≡ known records (heard [] xs))
+    loaded = rw (fresh image z) (from [] xs (rw (fresh image z) at (loaded-keeps image z)) b)
+
+    -- from the load on, the public steps and the plain reading agree on every answer and every output byte
+    pub calls-agree : calls config (loadOf image .run) xs ≡ callReplies records [] xs
+    calls-agree = loaded .0
+
+    -- and each counter is the number of its steps among the calls that had room
+    pub calls-count : afterCalls config (loadOf image .run) xs .counts ≡ knownCounts records (heard [] xs)
+    calls-count = ap (λ (r : Run). r .counts) (loaded .1)
