@@ -1,20 +1,10 @@
 // The dispatch writer: the bytes of a command at the start of the output, for answer 10 and no other.
+use wire::word::high;
+use wire::word::low;
 ghost use mathlib.Core.Path.{_≡_};
-ghost use Prim.Native.Nat.{_+_, _/_, _%_, _≤_};
+ghost use Prim.Native.Nat.{_+_, _≤_};
 ghost use lib.ListN.{length};
 ghost use Rattle.effects.specs.Dispatch.{commandBytes, over, sent, for10};
-
-fn high(x: u16) -> u8
-    ensures { λ r. ⌜ r ≡ x / 256 ⌝ }
-{
-    (x >> 8) as u8
-}
-
-fn low(x: u16) -> u8
-    ensures { λ r. ⌜ r ≡ x % 256 ⌝ }
-{
-    (x % 256) as u8
-}
 
 // Source, command id, argument count, arguments; returns the bytes written.
 // internal: for the steps, which have seen that there is room.

@@ -19,7 +19,7 @@ use Rattle.answers.specs.OwnLaws.{both}
 use Rattle.image.specs.Records.{Record, recordsOf}
 use Rattle.image.specs.Image.{ofKind, rowIn, tablesOfRecords, startsOfRecords, loadOf}
 use Rattle.image.specs.Theorems.{loads-good, loaded-tables, loaded-run}
-use Rattle.history.specs.Plain.{Event, packet, wanted, namesFault, faultNamed, selects, nearest, ticksSince, isArm, timeout, lasts, armed, accepted, packetAnswer, packetReply, Reply, Row, rowOf, tables, rows, stateOf, reply, replies}
+use Rattle.history.specs.Plain.{Event, packet, wanted, namesFault, faultNamed, selects, nearest, ticksSince, isArm, timeout, lasts, armed, accepted, packetAnswer, packetReply, Reply, Row, rowOf, tables, rows, stateOf, reply, replies, latestFirst}
 use Rattle.history.specs.Path.{run, after}
 use Rattle.history.specs.Known.{known, knownCounts}
 use Rattle.history.specs.RowsLaws.{rising-distinct, map-then}
@@ -34,12 +34,7 @@ module _ (image : List Record) (s : Sound image) where
       let k = step-known image s h e in
       rw (k .0, k .1) (ap (λ (l : List Reply). reply image h e ∷ l) (run-replies (e ∷ h) es))
 
-  -- the events in the order of a history, the latest first
-  abbrev pub behind : List Event → List Event → List Event
-  behind h [] = h
-  behind h (e ∷ es) = behind (e ∷ h) es
-
-  pub run-leaves : (h es : List Event) → after (tables image) (known image h) es ≡ known image (behind h es)
+  pub run-leaves : (h es : List Event) → after (tables image) (known image h) es ≡ known image (latestFirst h es)
   run-leaves h [] = refl
   run-leaves h (e ∷ es) = rw (step-known image s h e .1) (run-leaves (e ∷ h) es)
 
@@ -74,7 +69,7 @@ module _ (image : List ℕ) (z : loadOf image .answer ≡ 0) where
   agree es = rw (loaded-tables image z, fresh) (run-replies records sound [] es)
 
   -- each counter is the number of its steps since the last completed reset, or since loading, modulo 65,536
-  pub counters : (es : List Event) → after (tablesOf (loadOf image .config)) (loadOf image .run) es .counts ≡ knownCounts records (behind records sound [] es)
+  pub counters : (es : List Event) → after (tablesOf (loadOf image .config)) (loadOf image .run) es .counts ≡ knownCounts records (latestFirst [] es)
   counters es = rw (loaded-tables image z, fresh) (ap (λ (r : Run). r .counts) (run-leaves records sound [] es))
 
 -- ---- the arm rule, in the mission's words

@@ -91,7 +91,7 @@ module _ (c : Config) (run : Run) (room : ℕ) (k : keepsRules c run ≡ true) w
   with-room tick l = simp k
   with-room (fault f) l = simp (k, l)
 
-step-keeps : {c : Config} {run : Run} → Keeps c run → (e : Event) → EventBytes e → Keeps c (step (tablesOf c) run e .run)
+pub step-keeps : {c : Config} {run : Run} → Keeps c run → (e : Event) → EventBytes e → Keeps c (step (tablesOf c) run e .run)
 step-keeps k (packet p) b = packet-keeps k p b
 step-keeps k tick b = tick-keeps k
 step-keeps k (fault f) b = fault-keeps k f

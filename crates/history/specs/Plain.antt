@@ -21,6 +21,11 @@ pub data Event : Type 0 where
   tick : Event
   fault : ℕ → Event
 
+-- the earlier events, the latest first, behind those of h: the order of every history below
+abbrev pub latestFirst : List Event → List Event → List Event
+latestFirst h [] = h
+latestFirst h (e ∷ es) = latestFirst (e ∷ h) es
+
 -- the four numbers of an answer, and the bytes of the command sent on
 pub record Reply : Type 0 where
   pub answer : ℕ

@@ -5,14 +5,12 @@ use mathlib.Core.List.{List, [], _∷_, _++_}
 use Prim.Native.Nat.{ℕ}
 use lib.Dec.{eqb}
 use Rattle.image.specs.Records.{Record}
-use Rattle.history.specs.Plain.{Event, packet, fault, Reply, Row, accepted, ticksSince, armed, packetAnswer, faultAnswer, rows, stateOf, reply, replies, resets, selects, whenFaulted}
-use Rattle.history.specs.KnownLaws.{Sound}
-use Rattle.history.specs.Agree.{behind}
+use Rattle.history.specs.Plain.{Event, latestFirst, packet, fault, Reply, Row, accepted, ticksSince, armed, packetAnswer, faultAnswer, rows, stateOf, reply, replies, resets, selects, whenFaulted}
 
-module _ (image : List Record) (s : Sound image) where
+module _ (image : List Record) where
   -- a path that works on its first step and only pretends afterwards: the event behind any list has the reply that the whole
   -- list before it asks for
-  pub later : (h es : List Event) (e : Event) → replies image h (es ++ e ∷ []) ≡ replies image h es ++ reply image (behind image s h es) e ∷ []
+  pub later : (h es : List Event) (e : Event) → replies image h (es ++ e ∷ []) ≡ replies image h es ++ reply image (latestFirst h es) e ∷ []
   later h [] e = refl
   later h (x ∷ es) e = ap (λ (l : List Reply). reply image h x ∷ l) (later (x ∷ h) es e)
 

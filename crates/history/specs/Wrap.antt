@@ -9,18 +9,17 @@ use Rattle.state.specs.declared.types.Counts.{Counts}
 use Rattle.state.specs.Tables.{tablesOf}
 use Rattle.image.specs.Records.{Record, recordsOf}
 use Rattle.image.specs.Image.{loadOf}
-use Rattle.history.specs.Plain.{Event, packet, fault, accepted, resets, count, movesR, movesF}
+use Rattle.history.specs.Plain.{Event, latestFirst, packet, fault, accepted, resets, count, movesR, movesF}
 use Rattle.history.specs.Path.{after}
-use Rattle.history.specs.KnownLaws.{Sound}
-use Rattle.history.specs.Agree.{behind, sound, counters}
+use Rattle.history.specs.Agree.{counters}
 
 abbrev pub times : ℕ → Event → List Event
 times zero e = []
 times (suc n) e = e ∷ times n e
 
 -- each of them is one step more
-module _ (image : List Record) (s : Sound image) (moves : List Event → Event → Bool) (e : Event) where
-  count-times : ((h : List Event) → resets image h e ≡ false) → ((h : List Event) → moves h e ≡ true) → (n : ℕ) (h : List Event) → count image moves (behind image s h (times n e)) ≡ n + count image moves h
+module _ (image : List Record) (moves : List Event → Event → Bool) (e : Event) where
+  count-times : ((h : List Event) → resets image h e ≡ false) → ((h : List Event) → moves h e ≡ true) → (n : ℕ) (h : List Event) → count image moves (latestFirst h (times n e)) ≡ n + count image moves h
   count-times still one zero h = omega arith
   count-times still one (suc n) h = count-times still one n (e ∷ h) ∙ rw (still h, one h) (omega arith)
 
@@ -35,12 +34,12 @@ module _ (image : List ℕ) (z : loadOf image .answer ≡ 0) where
   pub faults-counted : (f n : ℕ) → left-by n (fault f) .f ≡ n % 65536
   faults-counted f n =
       ap (λ (c : Counts). c .f) (counters image z (times n (fault f)))
-      ∙ rw (count-times records (sound image z) (movesF records) (fault f) (λ h. refl) (λ h. refl) n []) (ap (λ k. k % 65536) (omega arith))
+      ∙ rw (count-times records (movesF records) (fault f) (λ h. refl) (λ h. refl) n []) (ap (λ k. k % 65536) (omega arith))
 
   pub rejected-counted : (p : List ℕ) → accepted p ≡ false → (n : ℕ) → left-by n (packet p) .r ≡ n % 65536
   rejected-counted p a n =
       ap (λ (c : Counts). c .r) (counters image z (times n (packet p)))
-      ∙ rw (count-times records (sound image z) (movesR records) (packet p) (λ h. simp a) (λ h. simp a) n []) (ap (λ k. k % 65536) (omega arith))
+      ∙ rw (count-times records (movesR records) (packet p) (λ h. simp a) (λ h. simp a) n []) (ap (λ k. k % 65536) (omega arith))
 
   -- 65,540 of them leave 4
   pub faults-wrap : (f : ℕ) → left-by 65540 (fault f) .f ≡ 4

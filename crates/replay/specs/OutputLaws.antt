@@ -1,0 +1,56 @@
+-- Laws of the output: a command written behind the place of its numbers, then the numbers, then the next reply behind both.
+use mathlib.Core.Path.{_≡_, refl, sym, ap, _∙_}
+use mathlib.Core.List.{List, [], _∷_, _++_, append-assoc, append-nil}
+use Prim.Native.Nat.{ℕ, _+_, _-_, _≤_}
+use native.Mathlib.Omega.{arith}
+use lib.ListN.{length, take, drop, length-append, length-drop, drop-of-length-le}
+use lib.Seq.{take-all, take-at, drop-at, drop-drop, drop-append-add, length-take-le, take-append-le, take-take}
+use Rattle.wire.specs.Put.{putAt}
+use Rattle.effects.specs.Dispatch.{over}
+
+-- a buffer whose part from place n on was lent and came back as `part`
+abbrev pub backAs : List ℕ → ℕ → List ℕ → List ℕ
+backAs out n part = take n out ++ (part ++ drop (length out - n) (drop n out))
+
+-- that part, as it is lent
+abbrev pub partFrom : List ℕ → ℕ → List ℕ
+partFrom out n = take (length out - n) (drop n out)
+
+pub part-is : (out : List ℕ) (n : ℕ) → partFrom out n ≡ drop n out
+part-is out n = take-all (length out - n) (drop n out) (omega (arith, length-drop n out))
+
+nothing-behind : (out : List ℕ) (n : ℕ) → drop (length out - n) (drop n out) ≡ []
+nothing-behind out n = drop-of-length-le (drop n out) {i = length out - n} (omega (arith, length-drop n out))
+
+module _ (out₀ done : List ℕ) (w : ℕ) (e : w ≡ length done) where
+  -- what stands behind the replies is as it was
+  pub behind-done : (n : ℕ) → drop (w + n) (over done out₀) ≡ drop (w + n) out₀
+  behind-done n = rw e (drop-append-add done (drop (length done) out₀) n ∙ drop-drop n (length done) out₀)
+
+  pub done-first : take w (over done out₀) ≡ done
+  done-first = take-at done (drop (length done) out₀) w (sym e)
+
+  module _ (head cmd : List ℕ) (six : length head ≡ 6) where
+    -- the numbers put before a command
+    pub numbers-put : (out : List ℕ) → take w out ≡ done → drop (w + 6) out ≡ over cmd (drop (w + 6) out₀)
+        → putAt out w head ≡ over (done ++ (head ++ cmd)) out₀
+    numbers-put out t d =
+        let long : w + 6 + length cmd ≡ length (done ++ (head ++ cmd)) = rw (length-append done (head ++ cmd), length-append head cmd, six) (omega (arith, e)) in
+        let rest : drop (length cmd) (drop (w + 6) out₀) ≡ drop (length (done ++ (head ++ cmd))) out₀ = drop-drop (length cmd) (w + 6) out₀ ∙ ap (λ k. drop k out₀) long in
+        rw (six, t, d, rest) (simp append-assoc)
+
+    -- a command of a step that was lent the part behind the numbers
+    pub reply-put : w + 6 ≤ length out₀ → length done ≤ length out₀ → {part : List ℕ} → part ≡ over cmd (partFrom (over done out₀) (w + 6))
+        → putAt (backAs (over done out₀) (w + 6) part) w head ≡ over (done ++ (head ++ cmd)) out₀
+    reply-put fits l {part} p =
+        let out = over done out₀ in
+        let long : length out ≡ length out₀ = length-append done (drop (length done) out₀) ∙ omega (arith, length-drop (length done) out₀) in
+        let front : length (take (w + 6) out) ≡ w + 6 = length-take-le (w + 6) out (omega (arith, long)) in
+        let same : part ++ drop (length out - (w + 6)) (drop (w + 6) out) ≡ over cmd (drop (w + 6) out₀) = rw (nothing-behind out (w + 6), append-nil part, p, part-is out (w + 6), behind-done 6) in
+        numbers-put (backAs out (w + 6) part)
+        (take-append-le w (take (w + 6) out) _ (omega (arith, front)) ∙ take-take w (w + 6) out (omega arith) ∙ done-first)
+        (drop-at (take (w + 6) out) _ (w + 6) front ∙ same)
+
+    -- an answer with no command
+    pub answer-put : cmd ≡ [] → putAt (over done out₀) w head ≡ over (done ++ (head ++ cmd)) out₀
+    answer-put z = numbers-put (over done out₀) done-first (behind-done 6 ∙ rw z)

@@ -1,0 +1,62 @@
+-- Laws of one step of the running path: the bytes of its command, as they stand in the output and as its answer counts them.
+use mathlib.Core.Path.{_≡_, refl, sym, ap, _∙_}
+use mathlib.Core.Bool.{Bool, true, false, cond}
+use mathlib.Core.List.{List, [], _∷_}
+use Prim.Native.Nat.{ℕ, _+_, _<_, _≤_}
+use native.Mathlib.Omega.{arith}
+use lib.Dec.{eqb}
+use lib.ListN.{length}
+use borrow.Author.Tests.{ne-eqb, eqb-true, eqb-false}
+use Rattle.packet.specs.Layout.{commandId}
+use Rattle.packet.specs.Judge.{refusalOf, argumentsOf}
+use Rattle.packet.specs.Laws.{outcome}
+use Rattle.state.specs.declared.types.Run.{Run}
+use Rattle.state.specs.Tables.{Tables}
+use Rattle.effects.specs.Dispatch.{commandBytes, over, sent, for10}
+use Rattle.effects.specs.FaultStates.{rowFor}
+use Rattle.answers.specs.Answers.{answerTo, faultAnswer}
+use Rattle.steps.specs.Step.{acceptedStep, rejectedStep, packetStep, packetOutput, tickStep, faultStep, faultOutput}
+use Rattle.steps.specs.StepLaws.{packet-rejected, packet-accepted}
+use Rattle.steps.specs.Demand1.{refused-range}
+use Rattle.history.specs.Plain.{Event, packet, tick, fault}
+use Rattle.history.specs.Path.{step, bytesFor}
+
+sent-over : (n source id : ℕ) (args out : List ℕ) → sent n source id args out ≡ over (cond (eqb n 10) (commandBytes source id args) []) out
+unfolding sent
+sent-over n source id args out = go (eqb n 10)
+  where
+    go : (b : Bool) → cond b (over (commandBytes source id args) out) out ≡ over (cond b (commandBytes source id args) []) out
+    go true = refl
+    go false = refl
+
+module _ (t : Tables) (n : ℕ) (out : List ℕ) where
+  pub packet-over : (p : List ℕ) → packetOutput t n p out ≡ over (bytesFor t (packet p) n) out
+  unfolding packetOutput
+  packet-over p = sent-over n (t .ground) (commandId p) (argumentsOf p) out
+
+  pub fault-over : (f : ℕ) → faultOutput t n f out ≡ over (bytesFor t (fault f) n) out
+  unfolding faultOutput
+  fault-over f = sent-over n (t .fault) (rowFor f (t .rows) .response) (rowFor f (t .rows) .args) out
+
+command-long : (n source id : ℕ) (args : List ℕ) → length (cond (eqb n 10) (commandBytes source id args) []) ≡ for10 n (5 + length args)
+command-long n source id args = go (eqb n 10)
+  where
+    go : (b : Bool) → length (cond b (commandBytes source id args) []) ≡ cond b (5 + length args) 0
+    go true = omega arith
+    go false = refl
+
+-- the answer counts the bytes of the command
+pub written-is : (t : Tables) (s : Run) (e : Event) → length (bytesFor t e (step t s e .answer .answer)) ≡ step t s e .answer .written
+unfolding acceptedStep rejectedStep tickStep faultStep
+written-is t s (packet p) = go (eqb (refusalOf p) 0) refl
+  where
+    go : (z : Bool) → eqb (refusalOf p) 0 ≡ z → length (bytesFor t (packet p) (packetStep t s p .answer .answer)) ≡ packetStep t s p .answer .written
+    go false e =
+        rw (← packet-rejected t s p (refusalOf p) (refl, eqb-false _ _ e))
+        (simp (ne-eqb (refusalOf p) 10 (λ q. omega (arith, refused-range (outcome p) (eqb-false _ _ e), q))))
+    go true e =
+        rw (← packet-accepted t s p (commandId p) (argumentsOf p) (eqb-true _ _ e) refl refl)
+        (command-long (answerTo t (s .arm .armed) (commandId p) (argumentsOf p)) (t .ground) (commandId p) (argumentsOf p))
+written-is t s tick = refl
+written-is t s (fault f) =
+    command-long (faultAnswer (t .rows) (s .states) f) (t .fault) (rowFor f (t .rows) .response) (rowFor f (t .rows) .args)

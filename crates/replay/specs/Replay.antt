@@ -1,0 +1,97 @@
+-- What a replay hands back and writes: of a recording under an image, by the plain reading and nothing else; and of a piece of
+-- a recording behind a state.
+use mathlib.Core.Bool.{cond}
+use mathlib.Core.List.{List, []}
+use Prim.Native.Nat.{ℕ}
+use lib.Dec.{eqb, ltb}
+use lib.ListN.{length, take}
+use Rattle.state.specs.declared.types.Config.{Config}
+use Rattle.state.specs.declared.types.Run.{Run}
+use Rattle.state.specs.Tables.{Tables, tablesOf}
+use Rattle.state.specs.Test.{keepsRules}
+use Rattle.image.specs.Records.{Record, recordsOf}
+use Rattle.image.specs.Image.{loadOf}
+use Rattle.history.specs.Plain.{Event, Reply, replies, latestFirst}
+use Rattle.history.specs.Path.{run, after}
+use Rattle.history.specs.Known.{knownCounts}
+use Rattle.replay.specs.declared.types.Piece.{Piece}
+use Rattle.replay.specs.declared.types.Replayed.{Replayed}
+use Rattle.replay.specs.Recording.{eventsOf, firstRefusal, bytesIn, flat, fitting}
+
+-- why the reading stopped, once these replies were given: 21 where an event is left, else what refuses the first bad record
+abbrev pub stopOf : List Reply → List Record → ℕ
+stopOf xs rs = cond (ltb (length xs) (length (eventsOf rs))) 21 (firstRefusal rs)
+
+-- the first events, as many as replies were given
+abbrev pub answered : List Reply → List Record → List Event
+answered xs rs = take (length xs) (eventsOf rs)
+
+-- ---- a piece of a recording behind a state, by the running path
+
+-- the replies that find room
+abbrev pub pathReplies : Tables → Run → List Record → ℕ → List Reply
+pathReplies t s rs room = fitting room (run t s (eventsOf rs))
+
+abbrev pub piece : Tables → Run → List Record → List Reply → Piece
+piece t s rs xs =
+    record {
+      run = after t s (answered xs rs);
+      stop = stopOf xs rs;
+      read = bytesIn (take (length xs) rs);
+      count = length xs;
+      wrote = length (flat xs);
+    }
+
+-- nothing read, nothing answered, nothing written
+abbrev pub idle : Run → ℕ → Piece
+idle s n = record { run = s; stop = n; read = 0; count = 0; wrote = 0 }
+
+-- 20 where the state breaks its rules
+unfoldable pub pieceOf : Config → Run → List ℕ → ℕ → Piece
+pieceOf c s recording room =
+    cond (keepsRules c s) (piece (tablesOf c) s (recordsOf recording) (pathReplies (tablesOf c) s (recordsOf recording) room)) (idle s 20)
+
+unfoldable pub pieceBytes : Config → Run → List ℕ → ℕ → List ℕ
+pieceBytes c s recording room = cond (keepsRules c s) (flat (pathReplies (tablesOf c) s (recordsOf recording) room)) []
+
+-- ---- a recording under an image, by the plain reading: no running state
+
+-- the replies that find room; none where the image is refused
+abbrev pub plainReplies : List ℕ → List ℕ → ℕ → List Reply
+plainReplies image recording room =
+    cond (eqb (loadOf image .answer) 0) (fitting room (replies (recordsOf image) [] (eventsOf (recordsOf recording)))) []
+
+abbrev pub replayed : List ℕ → List Record → List Reply → Replayed
+replayed image rs xs =
+    record {
+      load = 0;
+      offset = 0;
+      stop = stopOf xs rs;
+      read = bytesIn (take (length xs) rs);
+      count = length xs;
+      wrote = length (flat xs);
+      counts = knownCounts (recordsOf image) (latestFirst [] (answered xs rs));
+    }
+
+-- the load's refusal and its offset, and zeros for all else
+abbrev pub unloaded : ℕ → ℕ → Replayed
+unloaded n place =
+    record {
+      load = n;
+      offset = place;
+      stop = 0;
+      read = 0;
+      count = 0;
+      wrote = 0;
+      counts = record { a = 0; r = 0; d = 0; p = 0; u = 0; i = 0; f = 0 };
+    }
+
+unfoldable pub replayOf : List ℕ → List ℕ → ℕ → Replayed
+replayOf image recording room =
+    cond (eqb (loadOf image .answer) 0)
+    (replayed image (recordsOf recording) (plainReplies image recording room))
+    (unloaded (loadOf image .answer) (loadOf image .offset))
+
+-- the answers in bytes, one behind the other
+unfoldable pub replayBytes : List ℕ → List ℕ → ℕ → List ℕ
+replayBytes image recording room = flat (plainReplies image recording room)

@@ -1,0 +1,78 @@
+-- Laws of a replay for its two entry points: a state that breaks its rules, one that keeps them, an image that is refused, and
+-- one that loads, where the running path gives way to the plain reading.
+use mathlib.Core.Path.{_≡_, refl, sym, ap, _∙_}
+use mathlib.Core.Bool.{true, false}
+use mathlib.Core.List.{List, []}
+use Prim.Native.Nat.{ℕ}
+use lib.ListN.{length}
+use borrow.Author.Tests.{eq-eqb, ne-eqb}
+use Rattle.state.specs.declared.types.Config.{Config}
+use Rattle.state.specs.declared.types.Run.{Run}
+use Rattle.state.specs.Tables.{tablesOf}
+use Rattle.state.specs.Test.{keepsRules}
+use Rattle.effects.specs.Dispatch.{over}
+use Rattle.image.specs.declared.types.Loaded.{Loaded}
+use Rattle.image.specs.Records.{Record, recordsOf}
+use Rattle.image.specs.Image.{loadOf}
+use Rattle.history.specs.Plain.{Reply, latestFirst}
+use Rattle.history.specs.Path.{after}
+use Rattle.history.specs.Known.{knownCounts}
+use Rattle.history.specs.Agree.{agree, counters}
+use Rattle.replay.specs.declared.types.Piece.{Piece}
+use Rattle.replay.specs.declared.types.Replayed.{Replayed}
+use Rattle.replay.specs.Recording.{eventsOf, flat, fitting}
+use Rattle.replay.specs.Replay.{answered, pathReplies, piece, idle, pieceOf, pieceBytes, plainReplies, replayed, unloaded, replayOf, replayBytes}
+
+-- ---- a piece behind any state
+
+module _ (c : Config) (s : Run) (recording out : List ℕ) where
+  abbrev there : List Reply
+  there = pathReplies (tablesOf c) s (recordsOf recording) (length out)
+
+  pub breaks : keepsRules c s ≡ false → (idle s 20 ≡ pieceOf c s recording (length out)) × (out ≡ over (pieceBytes c s recording (length out)) out)
+  unfolding pieceOf pieceBytes
+  breaks e = rw e (refl, refl)
+
+  pub keeps : keepsRules c s ≡ true → {p : Piece} → p ≡ piece (tablesOf c) s (recordsOf recording) there → {left : List ℕ} → left ≡ over (flat there) out
+      → (p ≡ pieceOf c s recording (length out)) × (left ≡ over (pieceBytes c s recording (length out)) out)
+  unfolding pieceOf pieceBytes
+  keeps e p o = rw e (p, o)
+
+-- ---- a recording under any image
+
+module _ (image recording out : List ℕ) {l : Loaded} (e : l ≡ loadOf image) where
+  pub refused : (l .answer ≡ 0 → ⊥) → (unloaded (l .answer) (l .offset) ≡ replayOf image recording (length out)) × (out ≡ over (replayBytes image recording (length out)) out)
+  unfolding replayOf replayBytes
+  refused n = rw (← e) (simp (ne-eqb _ _ n) (refl, refl))
+
+  module _ (z : l .answer ≡ 0) where
+    abbrev events : List Record
+    events = recordsOf recording
+
+    abbrev path : List Reply
+    path = pathReplies (tablesOf (l .config)) (l .run) events (length out)
+
+    loads : loadOf image .answer ≡ 0
+    loads = ap (λ (x : Loaded). x .answer) (sym e) ∙ z
+
+    plain : path ≡ plainReplies image recording (length out)
+    plain = rw (e, eq-eqb _ _ loads) (ap (λ (xs : List Reply). fitting (length out) xs) (agree image loads (eventsOf events)))
+
+    counted : (xs : List Reply) → after (tablesOf (l .config)) (l .run) (answered xs events) .counts ≡ knownCounts (recordsOf image) (latestFirst [] (answered xs events))
+    counted xs = rw e (counters image loads (answered xs events))
+
+    abbrev whole : Piece → Replayed
+    whole p = record { load = 0; offset = 0; stop = p .stop; read = p .read; count = p .count; wrote = p .wrote; counts = p .run .counts }
+
+    final : replayed image events (plainReplies image recording (length out)) ≡ replayOf image recording (length out)
+    unfolding replayOf
+    final = rw (eq-eqb _ _ loads)
+
+    -- the piece of the running path is the plain reading's
+    pub loaded : {p : Piece} → p ≡ piece (tablesOf (l .config)) (l .run) events path → {left : List ℕ} → left ≡ over (flat path) out
+        → (whole p ≡ replayOf image recording (length out))
+        × (left ≡ over (replayBytes image recording (length out)) out)
+    unfolding replayBytes
+    loaded h o =
+        let same : whole (piece (tablesOf (l .config)) (l .run) events path) ≡ replayed image events path = rw (counted path) in
+        (ap whole h ∙ same ∙ ap (λ (xs : List Reply). replayed image events xs) plain ∙ final, o ∙ ap (λ (xs : List Reply). over (flat xs) out) plain)

@@ -1,0 +1,4 @@
+// Replay: an image and a recording of events in bytes in, the answers in bytes out.
+pub mod recording;
+pub mod replay;
+pub mod types;

@@ -1,0 +1,50 @@
+// The records of a recording, and the numbers of a reply in bytes.
+use steps::types::Answer;
+use wire::word::high;
+use wire::word::low;
+ghost use mathlib.Core.Path.{_≡_};
+ghost use Prim.Native.Nat.{_+_, _≤_};
+ghost use lib.ListN.{length};
+ghost use Rattle.wire.specs.Put.{putAt};
+ghost use Rattle.replay.specs.Recording.{kindRefusal, headBytes};
+
+// What refuses a whole record: 2 its kind, 3 the length of its body; 0 nothing.
+pub fn refusal(kind: u16, size: usize) -> u8
+    ensures { λ r. ⌜ r ≡ kindRefusal kind size ⌝ }
+{
+    if kind == 16 {
+        return 0;
+    }
+    if kind == 17 {
+        if size == 0 {
+            return 0;
+        }
+        return 3;
+    }
+    if kind == 18 {
+        if size == 2 {
+            return 0;
+        }
+        return 3;
+    }
+    2
+}
+
+// Puts the four numbers of an answer before the place of its command; the place behind that command.
+// internal: for the replay, which has seen that there is room.
+pub fn put_numbers(out: &mut [u8], at: usize, a: Answer) -> usize
+    requires { ⌜ at + 6 ≤ length (now out) ⌝ }
+    ensures end { λ r. ⌜ r ≡ at + 6 + a .written ⌝ }
+    ensures output { λ r. ⌜ now (out .exit) ≡ putAt (now (out .entry)) at (headBytes (a .answer) (a .id) (a .dest) (a .written)) ⌝ }
+{
+    let head = [
+        a.answer,
+        low(a.id),
+        high(a.id),
+        a.dest,
+        low(a.written),
+        high(a.written),
+    ];
+    wire::put::bytes(out, at, &head);
+    at + 6 + a.written as usize
+}

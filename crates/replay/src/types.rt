@@ -1,0 +1,28 @@
+// What a replay hands back.
+use state::types::Counts;
+use state::types::Run;
+
+// What a piece of a recording came to, and the run that it left.
+pub struct Piece {
+    pub run: Run,
+    // 0 all of it was read; 1, 2 or 3 the first bad record; 21 the output room
+    pub stop: u8,
+    // bytes of the recording that were read, events that were answered, bytes of the output that were written
+    pub read: usize,
+    pub count: usize,
+    pub wrote: usize,
+}
+
+// What a recording under an image came to.
+pub struct Replayed {
+    // the load's answer and offset
+    pub load: u8,
+    pub offset: usize,
+    // as in `Piece`
+    pub stop: u8,
+    pub read: usize,
+    pub count: usize,
+    pub wrote: usize,
+    // the seven counters behind the last event that was answered
+    pub counts: Counts,
+}
