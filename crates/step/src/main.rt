@@ -1,5 +1,6 @@
 // The step program of document 01: the configuration from path.cfg, records from standard input, one line a step.
 mod input;
+mod lines;
 mod session;
 
 use image::types::Loaded;

@@ -7,7 +7,7 @@ use mathlib.Core.Path.{_≡_}
 use lib.ListN.{length}
 
 abbrev Inv-loop : tie.InvT-loop
-Inv-loop config bytes₀ out₀ at₀ turns₀ bytes out at turns = (131072 ≡ length bytes) × (4096 ≡ length out)
+Inv-loop config bytes₀ out₀ at₀ turns₀ bytes out at turns = (131072 ≡ length bytes) × (65536 ≡ length out)
 
 abbrev μ-loop : tie.MeasureT-loop
 μ-loop config bytes₀ out₀ at₀ turns₀ bytes out at turns = turns
