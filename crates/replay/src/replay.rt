@@ -22,7 +22,7 @@ pub fn inner_replay(config: Config, run: Run, recording: &[u8], out: &mut [u8]) 
     ensures told { λ r. ⌜ r ≡ piece (tablesOf config) run (recordsOf (now (recording .entry))) (pathReplies (tablesOf config) run (recordsOf (now (recording .entry))) (length (now (out .entry)))) ⌝ }
     ensures output { λ r. ⌜ now (out .exit) ≡ over (flat (pathReplies (tablesOf config) run (recordsOf (now (recording .entry))) (length (now (out .entry))))) (now (out .entry)) ⌝ }
 {
-    let mut run = run;
+    let mut left = run;
     let mut read = 0;
     let mut count = 0;
     let mut wrote = 0;
@@ -30,7 +30,7 @@ pub fn inner_replay(config: Config, run: Run, recording: &[u8], out: &mut [u8]) 
         let end = image::record::end_of(recording, read);
         if end == 0 {
             return Piece {
-                run,
+                run: left,
                 stop: 1,
                 read,
                 count,
@@ -43,7 +43,7 @@ pub fn inner_replay(config: Config, run: Run, recording: &[u8], out: &mut [u8]) 
         let refused = recording::refusal(kind, body.len());
         if refused != 0 {
             return Piece {
-                run,
+                run: left,
                 stop: refused,
                 read,
                 count,
@@ -52,7 +52,7 @@ pub fn inner_replay(config: Config, run: Run, recording: &[u8], out: &mut [u8]) 
         }
         if out.len() - wrote < 266 {
             return Piece {
-                run,
+                run: left,
                 stop: 21,
                 read,
                 count,
@@ -61,28 +61,28 @@ pub fn inner_replay(config: Config, run: Run, recording: &[u8], out: &mut [u8]) 
         }
         let place = wrote + 6;
         if kind == 16 {
-            let s = steps::on_packet::inner_packet(config, run, body, &mut out[place..]);
-            wrote = recording::put_numbers(out, wrote, s.answer);
-            run = s.run;
+            let sent = steps::on_packet::inner_packet(config, left, body, &mut out[place..]);
+            wrote = recording::put_numbers(out, wrote, sent.answer);
+            left = sent.run;
             count += 1;
             read = end;
         } else if kind == 17 {
-            let s = steps::on_tick::inner_tick(run);
-            wrote = recording::put_numbers(out, wrote, s.answer);
-            run = s.run;
+            let ticked = steps::on_tick::inner_tick(left);
+            wrote = recording::put_numbers(out, wrote, ticked.answer);
+            left = ticked.run;
             count += 1;
             read = end;
         } else {
             let fault = image::record::word_at(body, 0);
-            let s = steps::on_fault::inner_fault(config, run, fault, &mut out[place..]);
-            wrote = recording::put_numbers(out, wrote, s.answer);
-            run = s.run;
+            let faulted = steps::on_fault::inner_fault(config, left, fault, &mut out[place..]);
+            wrote = recording::put_numbers(out, wrote, faulted.answer);
+            left = faulted.run;
             count += 1;
             read = end;
         }
     }
     Piece {
-        run,
+        run: left,
         stop: 0,
         read,
         count,

@@ -16,10 +16,10 @@ use Rattle.replay.proofs.replay.inner_replay.Statement.{statement}
 use Rattle.replay.proofs.replay.inner_replay.Tie as tie
 
 abbrev Inv-loop : tie.InvT-loop
-Inv-loop config recording out₀ run₀ read₀ count₀ wrote₀ out run read count wrote = Going config recording out₀ run₀ out run read count wrote
+Inv-loop config recording out₀ left₀ read₀ count₀ wrote₀ out left read count wrote = Going config recording out₀ left₀ out left read count wrote
 
 abbrev μ-loop : tie.MeasureT-loop
-μ-loop config recording out₀ run₀ read₀ count₀ wrote₀ out run read count wrote = length recording - read
+μ-loop config recording out₀ left₀ read₀ count₀ wrote₀ out left read count wrote = length recording - read
 
 -- the record at the cursor is whole
 module _ (c : tie.After-word-at Inv-loop μ-loop) where
@@ -41,7 +41,7 @@ module _ (c : tie.After-word-at Inv-loop μ-loop) where
   abbrev end : ℕ
   end = c .before .before .end-of .result
 
-  abbrev g : Going (head .before .before .before .args .config) bs out₀ (head .before .before .before .args .run) out (head .loop .run) (head .loop .read) (head .loop .count) (head .loop .wrote)
+  abbrev g : Going (head .before .before .before .args .config) bs out₀ (head .before .before .before .args .run) out (head .loop .left) (head .loop .read) (head .loop .count) (head .loop .wrote)
   g = head .loop .inv
 
   inside : head .loop .read < length bs
