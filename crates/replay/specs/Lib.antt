@@ -5,3 +5,4 @@ pub mod PathLaws
 pub mod Replay
 pub mod Walk
 pub mod ReplayLaws
+pub mod Theorems
