@@ -7,6 +7,7 @@ ghost use Rattle.packet.specs.Judge.{formRefusal, refusalOf, judgeOf};
 ghost use Rattle.packet.specs.Outcome.{Accepts};
 
 // The judge's answer: 0 with command id and argument count, or a refusal with zeros.
+#[repr(C)]
 pub struct Judged {
     pub answer: u8,
     pub id: u16,

@@ -4,6 +4,7 @@ ghost use mathlib.Core.Path.{_≡_};
 ghost use Rattle.steps.specs.Bare.{bareAnswer, unchanged};
 
 // The four numbers of an answer: the answer, the command id, the destination and the bytes written.
+#[repr(C)]
 pub struct Answer {
     pub answer: u8,
     pub id: u16,
@@ -12,6 +13,7 @@ pub struct Answer {
 }
 
 // The answer, and what the step left of the run.
+#[repr(C)]
 pub struct Stepped {
     pub run: Run,
     pub answer: Answer,

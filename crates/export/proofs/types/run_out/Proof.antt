@@ -1,0 +1,9 @@
+-- `run_out`: the bool as a number.
+use mathlib.Core.Path.{_≡_}
+use borrow.Author.Needs.{needs}
+use Rattle.export.specs.BoundaryLaws.{byte-is}
+use Rattle.export.proofs.types.run_out.Statement.{statement}
+use Rattle.export.proofs.types.run_out.Tie as tie
+
+pub run-out-spec : {M : Type 1} → statement M
+run-out-spec = tie.close (tie.spec (λ c. search needs) (λ c. rw (byte-is (c .before .before .before .before .args .run .arm .armed))))
