@@ -7,7 +7,7 @@ use lib.ListN.{length}
 use Rattle.packet.specs.Judge.{check}
 use Rattle.state.specs.Tables.{FaultRow, Tables, faultId, routed}
 use Rattle.state.specs.Rules.{member}
-use Rattle.effects.specs.FaultStates.{enabled, stateFor}
+use Rattle.faultstates.specs.FaultStates.{enabled, stateFor}
 use Rattle.answers.specs.Own.{ownNumber, argsWanted, onRow, faultArg}
 
 -- protected and unarmed

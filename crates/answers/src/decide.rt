@@ -5,7 +5,7 @@ ghost use lib.ListN.{length, take};
 ghost use Rattle.state.specs.Tables.{listed, routeAt};
 ghost use Rattle.state.specs.Lookup.{Column};
 ghost use Rattle.answers.specs.Answers.{blocked, routeAnswer, answerFor};
-ghost use Rattle.effects.specs.Dispatch.{for10, destOf};
+ghost use Rattle.dispatch.specs.Dispatch.{for10, destOf};
 ghost use Rattle.answers.specs.AnswerLaws.{Lent};
 
 // The answer, and the destination where it is 10.

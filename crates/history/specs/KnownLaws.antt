@@ -20,14 +20,14 @@ use Rattle.state.specs.Tables.{faultId, padded}
 use Rattle.state.specs.Rules.{member}
 use Rattle.image.specs.Records.{Record}
 use Rattle.image.specs.Image.{ofKind, tablesOfRecords}
-use Rattle.effects.specs.FaultStates.{rowAfter, actOn, rowFor, stateFor}
-use Rattle.effects.specs.Arming.{unarmed, armedFor, armAfter, ticked, tickAnswer}
-use Rattle.effects.specs.Counters.{up, packetCounts, rejectedCounts, faultCounts}
-use Rattle.effects.specs.RowLaws.{not-fault}
+use Rattle.faultstates.specs.FaultStates.{rowAfter, actOn, rowFor, stateFor}
+use Rattle.arming.specs.Arming.{unarmed, armedFor, armAfter, ticked, tickAnswer}
+use Rattle.counters.specs.Counters.{up, packetCounts, rejectedCounts, faultCounts}
+use Rattle.answers.specs.RowLaws.{not-fault}
 use Rattle.answers.specs.Own.{onRow, eventOf}
 use Rattle.answers.specs.OwnLaws.{row-range}
 use Rattle.answers.specs.Answers as steps
-use Rattle.effects.specs.FaultStates as events
+use Rattle.faultstates.specs.FaultStates as events
 use Rattle.steps.specs.Step.{statesAfter, acted, acceptedStep, rejectedStep, packetStep, tickStep, faulted, faultStep}
 use Rattle.steps.specs.StepLaws.{packet-rejected, packet-accepted}
 use Rattle.steps.specs.Demand1.{refused-range}

@@ -12,8 +12,8 @@ use Rattle.state.specs.declared.types.Run.{Run}
 use Rattle.state.specs.declared.types.Counts.{Counts}
 use Rattle.state.specs.Tables.{Tables}
 use Rattle.steps.specs.declared.types.Stepped.{Stepped}
-use Rattle.effects.specs.Counters.{rejectedCounts}
-use Rattle.effects.specs.DispatchLaws.{sent-not}
+use Rattle.counters.specs.Counters.{rejectedCounts}
+use Rattle.dispatch.specs.DispatchLaws.{sent-not}
 use Rattle.steps.specs.Step.{packetOutput, packetStepOf, faultOutput, faultStepOf, tickStep, tickStepOf, rejectedStep}
 use Rattle.steps.specs.Outcome.{Answered, stopped, miscounted, no-row, row-done, arm-taken, own-done, no-route, goes, Faulted, unlisted, quiet, responds, PacketSteps, packet-steps, FaultSteps, fault-steps, TickSteps, tick-steps}
 use Rattle.steps.specs.Outcome as outcome

@@ -17,9 +17,9 @@ use Rattle.state.specs.Tables.{Tables, faultId, routed, tablesOf}
 use Rattle.state.specs.Rules.{member}
 use Rattle.state.specs.Test.{keepsRules}
 use Rattle.steps.specs.declared.types.Stepped.{Stepped}
-use Rattle.effects.specs.FaultStates.{enabled, rowFor, stateFor}
-use Rattle.effects.specs.Dispatch.{commandBytes, sent, destOf}
-use Rattle.effects.specs.DispatchLaws.{sent-10}
+use Rattle.faultstates.specs.FaultStates.{enabled, rowFor, stateFor}
+use Rattle.dispatch.specs.Dispatch.{commandBytes, sent, destOf}
+use Rattle.dispatch.specs.DispatchLaws.{sent-10}
 use Rattle.answers.specs.Answers.{blocked}
 use Rattle.steps.specs.Step.{packetOutput, packetStepOf, faultOutput, faultStepOf, faultStep, rejectedStep}
 use Rattle.steps.specs.Outcome.{stopped, miscounted, no-row, row-done, arm-taken, own-done, no-route, goes, unlisted, quiet, responds, PacketSteps, packet-steps, FaultSteps, fault-steps}

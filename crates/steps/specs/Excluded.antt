@@ -16,8 +16,8 @@ use Rattle.state.specs.declared.types.Config.{Config}
 use Rattle.state.specs.declared.types.Run.{Run}
 use Rattle.state.specs.Tables.{Tables}
 use Rattle.steps.specs.declared.types.Stepped.{Stepped}
-use Rattle.effects.specs.Arming.{unarmed, armAfter, tickAnswer}
-use Rattle.effects.specs.ArmingLaws.{tick-last}
+use Rattle.arming.specs.Arming.{unarmed, armAfter, tickAnswer}
+use Rattle.arming.specs.ArmingLaws.{tick-last}
 use Rattle.answers.specs.Answers.{blocked, answerTo}
 use Rattle.steps.specs.Step.{packetStepOf, faultStepOf, rejectedStep, tickStep}
 use Rattle.steps.specs.Outcome.{only, stopped, PacketSteps, packet-steps}

@@ -11,10 +11,10 @@ use Rattle.state.specs.Tables.{Tables, faultId}
 use Rattle.state.specs.Rules.{member}
 use Rattle.steps.specs.declared.types.Stepped.{Stepped}
 use Rattle.steps.specs.Bare.{bareAnswer}
-use Rattle.effects.specs.FaultStates.{enabled, fault, actOn, rowFor, stateFor}
-use Rattle.effects.specs.Counters.{faultCounts}
-use Rattle.effects.specs.Dispatch.{commandBytes, over, sent, destOf}
-use Rattle.effects.specs.DispatchLaws.{sent-10}
+use Rattle.faultstates.specs.FaultStates.{enabled, fault, actOn, rowFor, stateFor}
+use Rattle.counters.specs.Counters.{faultCounts}
+use Rattle.dispatch.specs.Dispatch.{commandBytes, over, sent, destOf}
+use Rattle.dispatch.specs.DispatchLaws.{sent-10}
 use Rattle.answers.specs.AnswerLaws.{fault-34, fault-13, fault-10}
 use Rattle.steps.specs.Step.{faultStep, faultOutput}
 

@@ -17,9 +17,9 @@ use Rattle.state.specs.Lookup.{placeIn}
 use Rattle.state.specs.LookupLaws.{is-member, no-member}
 use Rattle.state.specs.ArrayLaws.{rows-count, fault-ids-are, routed-is}
 use Rattle.state.specs.Columns.{route-column, protected-column, fault-column}
-use Rattle.effects.specs.FaultStates.{rowAfter, actOn, noRow, rowFor, stateFor}
+use Rattle.faultstates.specs.FaultStates.{rowAfter, actOn, noRow, rowFor, stateFor}
 use Rattle.answers.specs.AnswerLaws.{Lent}
-use Rattle.effects.specs.RowLaws.{listed-at, row-at, state-at, act-at}
+use Rattle.answers.specs.RowLaws.{listed-at, row-at, state-at, act-at}
 
 each-at : {A : Type 0} (P : A → Type 0) (d : A) (xs : List A) → Each P xs → (i : ℕ) → i < length xs → P (getD xs i d)
 each-at P d [] h i l = absurd (omega arith)

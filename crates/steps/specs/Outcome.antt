@@ -17,7 +17,7 @@ use Rattle.state.specs.Rules.{member}
 use Rattle.state.specs.Test.{keepsRules}
 use Rattle.steps.specs.declared.types.Stepped.{Stepped}
 use Rattle.steps.specs.Bare.{unchanged}
-use Rattle.effects.specs.FaultStates.{enabled, stateFor}
+use Rattle.faultstates.specs.FaultStates.{enabled, stateFor}
 use Rattle.answers.specs.Own.{ownNumber, argsWanted, onRow, faultArg}
 use Rattle.answers.specs.Answers.{blocked, routeAnswer, answerTo, faultAnswer}
 use Rattle.answers.specs.OwnLaws.{own-31, own-32, own-row, own-arm, own-other}

@@ -17,9 +17,9 @@ use Rattle.state.specs.declared.types.Run.{Run}
 use Rattle.state.specs.declared.types.Arm.{Arm}
 use Rattle.state.specs.Tables.{FaultRow, Tables, tablesOf}
 use Rattle.state.specs.Keeps.{Clear, StateOk, StatesOk, ArmOk, RunOk, Keeps}
-use Rattle.effects.specs.FaultStates.{disabled, enabled, latched, enable, disable, clear, fault, nextState, rowAfter, actOn, clearAll}
+use Rattle.faultstates.specs.FaultStates.{disabled, enabled, latched, enable, disable, clear, fault, nextState, rowAfter, actOn, clearAll}
 use Rattle.answers.specs.Own.{onRow, eventOf, faultArg}
-use Rattle.effects.specs.Arming.{unarmed, armedFor, fullTime, armAfter, ticked}
+use Rattle.arming.specs.Arming.{unarmed, armedFor, fullTime, armAfter, ticked}
 use Rattle.answers.specs.Answers.{answerTo, faultAnswer}
 use Rattle.answers.specs.OwnLaws.{row-range}
 use Rattle.steps.specs.Step.{statesAfter, acceptedStep, rejectedStep, packetStep, tickStep, faulted, faultStep}

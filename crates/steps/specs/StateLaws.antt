@@ -10,11 +10,11 @@ use lib.ListN.{length, getD, set}
 use borrow.Author.Tests.{eq-eqb, ne-eqb}
 use Rattle.state.specs.Tables.{FaultRow, faultId}
 use Rattle.state.specs.Lookup.{placeIn}
-use Rattle.effects.specs.FaultStates.{fault, nextState, actOn, clearAll}
+use Rattle.faultstates.specs.FaultStates.{fault, nextState, actOn, clearAll}
 use Rattle.answers.specs.Own.{onRow, eventOf, faultArg}
 use Rattle.steps.specs.Step.{statesAfter}
 use Rattle.answers.specs.OwnLaws.{row-range}
-use Rattle.effects.specs.RowLaws.{not-fault}
+use Rattle.answers.specs.RowLaws.{not-fault}
 
 -- an event that is no fault, on the row of an id
 abbrev pub actById : ℕ → ℕ → List ℕ → List ℕ → List ℕ

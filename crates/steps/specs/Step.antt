@@ -12,11 +12,11 @@ use Rattle.state.specs.Tables.{FaultRow, Tables, tablesOf}
 use Rattle.state.specs.Test.{keepsRules}
 use Rattle.steps.specs.declared.types.Stepped.{Stepped}
 use Rattle.steps.specs.Bare.{bareAnswer, unchanged}
-use Rattle.effects.specs.FaultStates.{fault, actOn, clearAll, rowFor}
+use Rattle.faultstates.specs.FaultStates.{fault, actOn, clearAll, rowFor}
 use Rattle.answers.specs.Own.{ownNumber, onRow, eventOf, faultArg}
-use Rattle.effects.specs.Arming.{armAfter, ticked, tickAnswer}
-use Rattle.effects.specs.Counters.{packetCounts, rejectedCounts, faultCounts}
-use Rattle.effects.specs.Dispatch.{sent, for10, destOf}
+use Rattle.arming.specs.Arming.{armAfter, ticked, tickAnswer}
+use Rattle.counters.specs.Counters.{packetCounts, rejectedCounts, faultCounts}
+use Rattle.dispatch.specs.Dispatch.{sent, for10, destOf}
 use Rattle.answers.specs.Answers.{answerTo, faultAnswer}
 
 -- ---- a packet

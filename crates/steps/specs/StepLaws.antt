@@ -19,9 +19,9 @@ use Rattle.state.specs.Test.{keepsRules}
 use Rattle.steps.specs.declared.types.Stepped.{Stepped}
 use Rattle.steps.specs.Bare.{unchanged}
 use Rattle.answers.specs.Own.{ownNumber}
-use Rattle.effects.specs.Arming.{armAfter}
-use Rattle.effects.specs.Counters.{packetCounts}
-use Rattle.effects.specs.Dispatch.{sent, for10, destOf}
+use Rattle.arming.specs.Arming.{armAfter}
+use Rattle.counters.specs.Counters.{packetCounts}
+use Rattle.dispatch.specs.Dispatch.{sent, for10, destOf}
 use Rattle.answers.specs.Answers.{answerFor}
 use Rattle.steps.specs.Step.{acted, acceptedStep, rejectedStep, packetStep, packetOutput, packetStepOf, tickStep, tickStepOf, faultStep, faultStepOf}
 use Rattle.steps.specs.StateLaws.{statesOn, states-on}

@@ -1,8 +1,6 @@
 // The fault step.
 use crate::types::Answer;
 use crate::types::Stepped;
-use effects::counts;
-use effects::faults;
 use state::types::Config;
 use state::types::Run;
 ghost use mathlib.Core.Path.{_≡_};
@@ -10,7 +8,7 @@ ghost use Prim.Native.Nat.{_+_, _*_, _≤_, _<_};
 ghost use lib.ListN.{length, take, drop};
 ghost use Rattle.state.specs.Tables.{tablesOf};
 ghost use Rattle.state.specs.Keeps.{Keeps};
-ghost use Rattle.effects.specs.Dispatch.{commandBytes, over};
+ghost use Rattle.dispatch.specs.Dispatch.{commandBytes, over};
 ghost use Rattle.steps.specs.Step.{faultStep, faultOutput, faultStepOf};
 ghost use Rattle.steps.specs.FaultStepLaws.{silentStep};
 
@@ -18,7 +16,7 @@ ghost use Rattle.steps.specs.FaultStepLaws.{silentStep};
 fn silent(run: Run, n: u8) -> Stepped
     ensures { λ r. ⌜ r ≡ silentStep run n ⌝ }
 {
-    let next = counts::after_fault(run.counts, n);
+    let next = counters::after_fault(run.counts, n);
     let mut left = run;
     left.counts = next;
     Stepped {
@@ -34,7 +32,7 @@ fn respond(out: &mut [u8], source: u16, id: u16, args: &[u8], k: usize, count: u
 {
     let from = k * 16;
     let end = from + count as usize;
-    effects::dispatch::write(out, source, id, &args[from..end])
+    dispatch::write(out, source, id, &args[from..end])
 }
 
 // The step of a state that keeps its rules, with room: the response goes straight to the router, even for a protected id.
@@ -59,8 +57,8 @@ pub fn inner_fault(config: Config, run: Run, fault: u16, out: &mut [u8]) -> Step
     let d = answers::decide::route(&config.routeids, &config.dests, config.nroutes, id);
     let written = respond(out, config.fault, id, &config.args, k, count);
     let mut left = run;
-    left.states[k] = faults::row_after(latching, s, 3);
-    left.counts = counts::after_fault(run.counts, 10);
+    left.states[k] = faultstates::row_after(latching, s, 3);
+    left.counts = counters::after_fault(run.counts, 10);
     Stepped {
         run: left,
         answer: Answer {

@@ -2,9 +2,6 @@
 use crate::types::Answer;
 use crate::types::Stepped;
 use answers::own;
-use effects::arm;
-use effects::counts;
-use effects::faults;
 use state::types::Config;
 use state::types::Run;
 ghost use mathlib.Core.Path.{_≡_};
@@ -20,7 +17,7 @@ ghost use Rattle.steps.specs.StateLaws.{statesOn};
 fn rejected(run: Run, n: u8) -> Stepped
     ensures { λ r. ⌜ r ≡ rejectedStep run n ⌝ }
 {
-    let next = counts::after_rejected(run.counts);
+    let next = counters::after_rejected(run.counts);
     let mut left = run;
     left.counts = next;
     Stepped {
@@ -51,11 +48,11 @@ fn states_after(
             return states;
         }
         let mut out = states;
-        out[at] = faults::next(states[at], k - 4);
+        out[at] = faultstates::next(states[at], k - 4);
         return out;
     }
     if k == 7 {
-        return faults::clear_all(states);
+        return faultstates::clear_all(states);
     }
     states
 }
@@ -90,10 +87,10 @@ pub fn inner_packet(config: Config, run: Run, packet: &[u8], out: &mut [u8]) -> 
     let n = d.answer;
     let old = run.states;
     let states = states_after(old, n, k, args, &config.faultids, config.nrows);
-    let written = effects::dispatch::send(out, n, config.ground, id, args);
+    let written = dispatch::send(out, n, config.ground, id, args);
     let next = Run {
-        arm: arm::after_packet(n, args),
-        counts: counts::after_packet(run.counts, n, k),
+        arm: arming::after_packet(n, args),
+        counts: counters::after_packet(run.counts, n, k),
         states: states,
     };
     Stepped {

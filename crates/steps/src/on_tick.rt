@@ -1,6 +1,5 @@
 // The tick step.
 use crate::types::Stepped;
-use effects::arm;
 use state::types::Config;
 use state::types::Run;
 ghost use mathlib.Core.Path.{_≡_};
@@ -11,8 +10,8 @@ pub fn inner_tick(run: Run) -> Stepped
     ensures { λ r. ⌜ r ≡ tickStep run ⌝ }
 {
     let old = run.arm;
-    let n = arm::tick_answer(old);
-    let next = arm::after_tick(old);
+    let n = arming::tick_answer(old);
+    let next = arming::after_tick(old);
     let mut left = run;
     left.arm = next;
     Stepped {

@@ -7,7 +7,7 @@ use borrow.Author.Needs.{needs}
 use Rattle.state.specs.Tables.{FaultRow, tablesOf}
 use Rattle.state.specs.Sized.{Sized, SizedRun}
 use Rattle.state.specs.Columns.{fault-column, route-column}
-use Rattle.effects.specs.FaultStates.{fault}
+use Rattle.faultstates.specs.FaultStates.{fault}
 use Rattle.answers.specs.AnswerLaws.{routed-dest}
 use Rattle.steps.specs.Found.{unknown, known, row-is, state-is, row-acts, args-within, responds}
 use Rattle.steps.specs.FaultStepLaws.{silent-unsent, fault-unknown, fault-silent, fault-sent, fault-output}

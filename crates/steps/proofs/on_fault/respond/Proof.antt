@@ -3,7 +3,7 @@ use native.Mathlib.Omega.{arith}
 use Prim.Native.Nat.{ℕ, _+_, _*_, _-_}
 use mathlib.Core.Path.{_≡_, ap, _∙_}
 use lib.ListN.{take, drop}
-use Rattle.effects.specs.Dispatch.{commandBytes, over}
+use Rattle.dispatch.specs.Dispatch.{commandBytes, over}
 use borrow.Author.Needs.{needs}
 use Rattle.steps.proofs.on_fault.respond.Statement.{statement}
 use Rattle.steps.proofs.on_fault.respond.Tie as tie
