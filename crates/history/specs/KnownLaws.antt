@@ -28,9 +28,9 @@ use Rattle.answers.specs.Own.{onRow, eventOf}
 use Rattle.answers.specs.OwnLaws.{row-range}
 use Rattle.answers.specs.Answers as steps
 use Rattle.faultstates.specs.FaultStates as events
-use Rattle.steps.specs.Step.{statesAfter, acted, acceptedStep, rejectedStep, packetStep, tickStep, faulted, faultStep}
-use Rattle.steps.specs.StepLaws.{packet-rejected, packet-accepted}
-use Rattle.steps.specs.Demand1.{refused-range}
+use Rattle.steprules.specs.Step.{statesAfter, acted, acceptedStep, rejectedStep, packetStep, tickStep, faulted, faultStep}
+use Rattle.steprules.specs.StepLaws.{packet-rejected, packet-accepted}
+use Rattle.steprules.specs.Demand1.{refused-range}
 use Rattle.history.specs.Plain.{rowNamed, Event, packet, tick, fault, accepted, nearest, ticksSince, Row, rowOf, whenEnabled, whenCleared, whenFaulted, faultAnswer, faultReply, more, tables, rows, selects, isArm, timeout, lasts, armed, packetAnswer, done, stateOf, faultNamed, packetReply, reply}
 use Rattle.history.specs.Path.{step, replyOf}
 use Rattle.history.specs.Known.{left, knownCounts, known}

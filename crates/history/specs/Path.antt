@@ -9,8 +9,8 @@ use Rattle.state.specs.declared.types.Run.{Run}
 use Rattle.state.specs.Tables.{Tables}
 use Rattle.faultstates.specs.FaultStates.{rowFor}
 use Rattle.dispatch.specs.Dispatch.{commandBytes}
-use Rattle.steps.specs.declared.types.Stepped.{Stepped}
-use Rattle.steps.specs.Step.{packetStep, tickStep, faultStep}
+use Rattle.steprules.specs.declared.types.Stepped.{Stepped}
+use Rattle.steprules.specs.Step.{packetStep, tickStep, faultStep}
 use Rattle.history.specs.Plain.{Event, packet, tick, fault, Reply}
 
 -- one step
