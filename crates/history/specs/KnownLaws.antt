@@ -11,9 +11,9 @@ use native.Mathlib.Omega.{arith}
 use lib.Dec.{eqb, ltb, lit<}
 use lib.ListN.{length, replicate, length-map}
 use borrow.Author.Tests.{lt-ltb, le-ltb, ne-eqb, eqb-true, eqb-false}
-use Rattle.packet.specs.Layout.{commandId}
-use Rattle.packet.specs.Judge.{check, refusalOf, argumentsOf}
-use Rattle.packet.specs.Laws.{outcome}
+use Rattle.packetrules.specs.Layout.{commandId}
+use Rattle.packetrules.specs.Judge.{check, refusalOf, argumentsOf}
+use Rattle.packetrules.specs.Laws.{outcome}
 use Rattle.state.specs.declared.types.Arm.{Arm}
 use Rattle.state.specs.declared.types.Run.{Run}
 use Rattle.state.specs.Tables.{faultId, padded}

@@ -6,7 +6,7 @@ use mathlib.Core.List.{List}
 use Prim.Native.Nat.{ℕ, _+_, _%_, _≤_}
 use native.Mathlib.Omega.{arith}
 use lib.Dec.{lit≤}
-use Rattle.packet.specs.Outcome.{Outcome, BadForm, not-version-0, not-telecommand, not-secondary, not-xor-0, below-6, not-whole, bad-form, no-room, too-many, taken}
+use Rattle.packetrules.specs.Outcome.{Outcome, BadForm, not-version-0, not-telecommand, not-secondary, not-xor-0, below-6, not-whole, bad-form, no-room, too-many, taken}
 use Rattle.state.specs.declared.types.Config.{Config}
 use Rattle.state.specs.declared.types.Run.{Run}
 use Rattle.state.specs.declared.types.Counts.{Counts}

@@ -7,10 +7,10 @@ use Prim.Native.Nat.{ℕ, _+_, _*_, _≤_}
 use native.Mathlib.Omega.{arith}
 use lib.ListN.{length, getD, take, drop}
 use lib.Seq.{take-append-seam, drop-at}
-use Rattle.packet.specs.Layout.{commandId}
-use Rattle.packet.specs.Judge.{argumentsOf}
-use Rattle.packet.specs.Outcome.{Outcome, Accepts}
-use Rattle.packet.specs.Laws.{only, accepted}
+use Rattle.packetrules.specs.Layout.{commandId}
+use Rattle.packetrules.specs.Judge.{argumentsOf}
+use Rattle.packetrules.specs.Outcome.{Outcome, Accepts}
+use Rattle.packetrules.specs.Laws.{only, accepted}
 use Rattle.state.specs.declared.types.Config.{Config}
 use Rattle.state.specs.declared.types.Run.{Run}
 use Rattle.state.specs.Tables.{Tables, faultId, routed, tablesOf}

@@ -8,10 +8,10 @@ use lib.Bits.{bitXor}
 use lib.ListN.{length, take}
 use borrow.Author.Tests.{ne-eqb}
 use Rattle.wire.specs.Xor.{xorAll}
-use Rattle.packet.specs.Layout.{dataLength, pads, padPart}
-use Rattle.packet.specs.Judge.{argumentsOf}
-use Rattle.packet.specs.Outcome.{Accepts}
-use Rattle.packet.specs.Parts.{argument-count, xor-with-pads}
+use Rattle.packetrules.specs.Layout.{dataLength, pads, padPart}
+use Rattle.packetrules.specs.Judge.{argumentsOf}
+use Rattle.packetrules.specs.Outcome.{Accepts}
+use Rattle.packetrules.specs.Parts.{argument-count, xor-with-pads}
 use Rattle.state.specs.declared.types.Config.{Config}
 use Rattle.state.specs.declared.types.Run.{Run}
 use Rattle.state.specs.Tables.{Tables}

@@ -6,10 +6,10 @@ use Prim.Native.Nat.{ℕ, _<_, _≤_}
 use lib.Dec.{eqb, leb, ltb}
 use lib.ListN.{length}
 use borrow.Author.Tests.{eqb-true, eqb-false, ltb-true, ltb-false, leb-true, leb-false}
-use Rattle.packet.specs.Layout.{commandId}
-use Rattle.packet.specs.Judge.{refusalOf, argumentsOf}
-use Rattle.packet.specs.Outcome.{Outcome, Accepts}
-use Rattle.packet.specs.Laws.{outcome, accepts}
+use Rattle.packetrules.specs.Layout.{commandId}
+use Rattle.packetrules.specs.Judge.{refusalOf, argumentsOf}
+use Rattle.packetrules.specs.Outcome.{Outcome, Accepts}
+use Rattle.packetrules.specs.Laws.{outcome, accepts}
 use Rattle.state.specs.declared.types.Config.{Config}
 use Rattle.state.specs.declared.types.Run.{Run}
 use Rattle.state.specs.Tables.{Tables, faultId, routed, tablesOf}

@@ -8,10 +8,10 @@ use lib.Dec.{eqb, lit≤}
 use lib.ListN.{getD, take, drop}
 use lib.Seq.{getD-take, getD-drop}
 use borrow.Author.Tests.{eqb-true, eqb-false}
-use Rattle.packet.specs.Layout.{argCount, commandId}
-use Rattle.packet.specs.Judge.{refusalOf, argumentsOf}
-use Rattle.packet.specs.Outcome.{Accepts}
-use Rattle.packet.specs.Laws.{accepts, arguments-accepted}
+use Rattle.packetrules.specs.Layout.{argCount, commandId}
+use Rattle.packetrules.specs.Judge.{refusalOf, argumentsOf}
+use Rattle.packetrules.specs.Outcome.{Accepts}
+use Rattle.packetrules.specs.Laws.{accepts, arguments-accepted}
 use Rattle.state.specs.declared.types.Config.{Config}
 use Rattle.state.specs.declared.types.Run.{Run}
 use Rattle.state.specs.declared.types.Arm.{Arm}

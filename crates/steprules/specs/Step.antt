@@ -4,8 +4,8 @@ use mathlib.Core.List.{List}
 use Prim.Native.Nat.{ℕ, _+_}
 use lib.Dec.{eqb, leb}
 use lib.ListN.{length}
-use Rattle.packet.specs.Layout.{commandId}
-use Rattle.packet.specs.Judge.{refusalOf, argumentsOf}
+use Rattle.packetrules.specs.Layout.{commandId}
+use Rattle.packetrules.specs.Judge.{refusalOf, argumentsOf}
 use Rattle.state.specs.declared.types.Config.{Config}
 use Rattle.state.specs.declared.types.Run.{Run}
 use Rattle.state.specs.Tables.{FaultRow, Tables, tablesOf}

@@ -2,9 +2,9 @@
 use mathlib.Core.Path.{_≡_, sym, _∙_}
 use native.Mathlib.Omega.{arith}
 use borrow.Author.Needs.{needs}
-use Rattle.packet.specs.Judge.{refusalOf}
-use Rattle.packet.specs.Laws.{accepts}
-use Rattle.packet.specs.Parts.{arguments-few}
+use Rattle.packetrules.specs.Judge.{refusalOf}
+use Rattle.packetrules.specs.Laws.{accepts}
+use Rattle.packetrules.specs.Parts.{arguments-few}
 use Rattle.state.specs.Tables.{tablesOf}
 use Rattle.state.specs.Sized.{Sized}
 use Rattle.state.specs.Columns.{fault-column, states-small}
