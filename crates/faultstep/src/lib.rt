@@ -44,7 +44,7 @@ pub fn inner_fault(config: Config, run: Run, fault: u16, out: &mut [u8]) -> Step
     ensures output { λ r. ⌜ now (out .exit) ≡ faultOutput (tablesOf config) (r .answer .answer) fault (now (out .entry)) ⌝ }
 {
     let rows = config.nrows;
-    let k = state::lookup::place(&config.faultids, rows, fault);
+    let k = lookup::place(&config.faultids, rows, fault);
     if k >= rows {
         return silent(run, 34);
     }
@@ -55,7 +55,7 @@ pub fn inner_fault(config: Config, run: Run, fault: u16, out: &mut [u8]) -> Step
     let id = config.responses[k];
     let count = config.argcounts[k];
     let latching = config.latching[k];
-    let d = answers::decide::route(&config.routeids, &config.dests, config.nroutes, id);
+    let d = deciding::decide::route(&config.routeids, &config.dests, config.nroutes, id);
     let written = respond(out, config.fault, id, &config.args, k, count);
     let mut left = run;
     left.states[k] = faultstates::row_after(latching, s, 3);

@@ -40,7 +40,7 @@ pub fn refusal(packet: &[u8]) -> u8
     if form != 0 {
         return form;
     }
-    let pads = wire::field::pads(packet[6]) as usize;
+    let pads = bitfields::pads(packet[6]) as usize;
     if field + 1 < pads + 4 {
         return 28;
     }

@@ -12,13 +12,13 @@ pub fn form_refusal(packet: &[u8]) -> u8
     ensures { λ r. ⌜ r ≡ formRefusal (now (packet .entry)) ⌝ }
 {
     let b0 = packet[0];
-    if wire::field::version(b0) != 0 {
+    if bitfields::version(b0) != 0 {
         return 24;
     }
-    if wire::field::packet_type(b0) != 1 {
+    if bitfields::packet_type(b0) != 1 {
         return 25;
     }
-    if wire::field::secondary(b0) != 1 {
+    if bitfields::secondary(b0) != 1 {
         return 26;
     }
     if wire::xor::all(&packet[1..]) != b0 {

@@ -25,12 +25,12 @@ pub fn read(packet: &[u8]) -> Header
     let b2 = packet[2];
     Header {
         answer: 0,
-        version: wire::field::version(b0),
-        kind: wire::field::packet_type(b0),
-        secondary: wire::field::secondary(b0),
-        apid: wire::field::apid(b0, packet[1]),
-        flags: wire::field::seq_flags(b2),
-        count: wire::field::seq_count(b2, packet[3]),
+        version: bitfields::version(b0),
+        kind: bitfields::packet_type(b0),
+        secondary: bitfields::secondary(b0),
+        apid: bitfields::apid(b0, packet[1]),
+        flags: bitfields::seq_flags(b2),
+        count: bitfields::seq_count(b2, packet[3]),
         length: wire::word::big(packet[4], packet[5]),
     }
 }

@@ -20,7 +20,7 @@ pub fn arg_count(packet: &[u8]) -> u8
     ensures { λ r. ⌜ r ≡ argCount (now (packet .entry)) ⌝ }
 {
     let field = wire::word::big(packet[4], packet[5]) as usize;
-    let pads = wire::field::pads(packet[6]) as usize;
+    let pads = bitfields::pads(packet[6]) as usize;
     (field + 1 - pads - 4) as u8
 }
 

@@ -44,7 +44,7 @@ fn states_after(
     }
     let c = own::selected(k);
     if c.row {
-        let at = state::lookup::place(ids, rows, own::fault_arg(args));
+        let at = lookup::place(ids, rows, own::fault_arg(args));
         if at >= rows {
             return states;
         }
@@ -72,7 +72,7 @@ pub fn inner_packet(config: Config, run: Run, packet: &[u8], out: &mut [u8]) -> 
     let id = packet::judge::command_id(packet);
     let args = packet::enquiry::accepted_part(packet);
     let k = own::number(config.base, id);
-    let d = answers::decide::decide(
+    let d = deciding::decide::decide(
         &config.protected,
         config.nprotected,
         &config.faultids,

@@ -1,10 +1,6 @@
 // The judge of a whole state, which every public step asks first: each table with what it does not use, then all of them.
-use leafcheck::all;
-use leafcheck::arm_ok;
-use leafcheck::both;
-use leafcheck::counts_ok;
-use leafcheck::zero_bytes;
-use leafcheck::zero_words;
+use arraycheck::zero_bytes;
+use arraycheck::zero_words;
 use state::rules;
 use state::types::Config;
 use state::types::Run;
@@ -13,6 +9,10 @@ use tablecheck::protected_keep;
 use tablecheck::routes_keep;
 use tablecheck::rows_keep;
 use tablecheck::states_keep;
+use valuecheck::all;
+use valuecheck::arm_ok;
+use valuecheck::both;
+use valuecheck::counts_ok;
 ghost use mathlib.Core.Path.{_≡_};
 ghost use Prim.Native.Nat.{_*_, _≤_};
 ghost use lib.ListN.{length};

@@ -1,11 +1,11 @@
 // The tables of a state, each passed over once: rows that rise and keep their rule, argument bytes, fault states.
-use leafcheck::is_routed;
-use leafcheck::seek;
-use leafcheck::stands;
-use leafcheck::state_ok;
-use leafcheck::wide;
-use leafcheck::zero_bytes;
+use arraycheck::is_routed;
+use arraycheck::seek;
+use arraycheck::stands;
+use arraycheck::zero_bytes;
 use state::rules;
+use valuecheck::state_ok;
+use valuecheck::wide;
 ghost use mathlib.Core.Path.{_≡_};
 ghost use mathlib.Core.List.{[]};
 ghost use Prim.Native.Nat.{_*_, _≤_};

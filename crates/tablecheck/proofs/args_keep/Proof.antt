@@ -2,7 +2,7 @@
 use Prim.Native.Nat.{_-_}
 use mathlib.Core.Path.{_∙_}
 use native.Mathlib.Omega.{arith}
-use Rattle.leafcheck.specs.Walks.{refuted, held, ArgsWalked, args-start, args-many, args-left, args-on, args-end}
+use Rattle.arraycheck.specs.Walks.{refuted, held, ArgsWalked, args-start, args-many, args-left, args-on, args-end}
 use Rattle.tablecheck.proofs.args_keep.Statement.{statement}
 use Rattle.tablecheck.proofs.args_keep.Tie as tie
 

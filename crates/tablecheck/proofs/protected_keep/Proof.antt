@@ -6,8 +6,8 @@ use native.Mathlib.Omega.{arith}
 use lib.ListN.{take, drop}
 use borrow.Author.Needs.{needs}
 use Rattle.state.specs.Test.{protectedKept}
-use Rattle.leafcheck.specs.Walks.{refuted, held, sinks, ends}
-use Rattle.leafcheck.specs.Merge.{Merged, merge-start, merge-fails, merge-on}
+use Rattle.arraycheck.specs.Walks.{refuted, held, sinks, ends}
+use Rattle.arraycheck.specs.Merge.{Merged, merge-start, merge-fails, merge-on}
 use Rattle.tablecheck.proofs.protected_keep.Statement.{statement}
 use Rattle.tablecheck.proofs.protected_keep.Tie as tie
 

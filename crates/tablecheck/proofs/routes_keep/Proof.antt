@@ -4,7 +4,7 @@ use native.Mathlib.Omega.{arith}
 use borrow.Author.Needs.{needs}
 use Rattle.state.specs.Tables.{routeId, listed, routeAt}
 use Rattle.state.specs.Test.{routePasses, routesKept}
-use Rattle.leafcheck.specs.Walks.{refuted, held, Walked, routes-start, sinks, fails, passes, ends}
+use Rattle.arraycheck.specs.Walks.{refuted, held, Walked, routes-start, sinks, fails, passes, ends}
 use Rattle.tablecheck.proofs.routes_keep.Statement.{statement}
 use Rattle.tablecheck.proofs.routes_keep.Tie as tie
 

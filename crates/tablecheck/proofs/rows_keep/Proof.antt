@@ -7,7 +7,7 @@ use lib.ListN.{take}
 use borrow.Author.Needs.{needs}
 use Rattle.state.specs.Tables.{faultId, rowAt, listed}
 use Rattle.state.specs.Test.{rowPasses, rowsKept}
-use Rattle.leafcheck.specs.Walks.{refuted, held, Walked, rows-start, sinks, fails, passes, ends}
+use Rattle.arraycheck.specs.Walks.{refuted, held, Walked, rows-start, sinks, fails, passes, ends}
 use Rattle.tablecheck.proofs.rows_keep.Statement.{statement}
 use Rattle.tablecheck.proofs.rows_keep.Tie as tie
 

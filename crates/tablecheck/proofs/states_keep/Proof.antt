@@ -4,7 +4,7 @@ use mathlib.Core.Path.{_∙_}
 use mathlib.Core.List.{[]}
 use native.Mathlib.Omega.{arith}
 use Rattle.state.specs.Tables.{rowAt}
-use Rattle.leafcheck.specs.Walks.{refuted, held, StatesWalked, states-start, state-fails, state-passes, states-end}
+use Rattle.arraycheck.specs.Walks.{refuted, held, StatesWalked, states-start, state-fails, state-passes, states-end}
 use Rattle.tablecheck.proofs.states_keep.Statement.{statement}
 use Rattle.tablecheck.proofs.states_keep.Tie as tie
 
