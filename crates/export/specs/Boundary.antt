@@ -5,12 +5,12 @@ use mathlib.Core.List.{List, []}
 use Prim.Native.Nat.{ℕ}
 use lib.Dec.{eqb, leb}
 use lib.ListN.{length}
-use Rattle.packet.specs.Judge.{argumentsOf, argumentsAt}
+use Rattle.packetrules.specs.Judge.{argumentsOf, argumentsAt}
 use Rattle.state.specs.declared.types.Config.{Config}
 use Rattle.state.specs.declared.types.Run.{Run}
-use Rattle.steps.specs.declared.types.Stepped.{Stepped}
-use Rattle.steps.specs.Bare.{bareAnswer}
-use Rattle.steps.specs.Step.{packetStepOf, tickStepOf, faultStepOf}
+use Rattle.steprules.specs.declared.types.Stepped.{Stepped}
+use Rattle.steprules.specs.Bare.{bareAnswer}
+use Rattle.steprules.specs.Step.{packetStepOf, tickStepOf, faultStepOf}
 use Rattle.image.specs.Image.{loadOf}
 use Rattle.replay.specs.declared.types.Piece.{Piece}
 use Rattle.replay.specs.Replay.{pieceOf, pieceBytes}

@@ -7,13 +7,13 @@ use Prim.Native.Nat.{ℕ, _<_, _≤_}
 use lib.ListN.{length}
 use mir.Val.{boolByte}
 use borrow.Author.Tests.{eq-eqb, ne-eqb, le-leb, lt-leb}
-use Rattle.packet.specs.Judge.{refusalOf, argumentsOf, argumentsAt}
+use Rattle.packetrules.specs.Judge.{refusalOf, argumentsOf, argumentsAt}
 use Rattle.state.specs.declared.types.Config.{Config}
 use Rattle.state.specs.declared.types.Run.{Run}
 use Rattle.state.specs.Tables.{Tables, tablesOf}
-use Rattle.effects.specs.Dispatch.{over}
-use Rattle.steps.specs.declared.types.Stepped.{Stepped}
-use Rattle.steps.specs.Step.{packetStepOf, packetOutput, tickStepOf, faultStepOf, faultOutput}
+use Rattle.dispatch.specs.Dispatch.{over}
+use Rattle.steprules.specs.declared.types.Stepped.{Stepped}
+use Rattle.steprules.specs.Step.{packetStepOf, packetOutput, tickStepOf, faultStepOf, faultOutput}
 use Rattle.replay.specs.declared.types.Piece.{Piece}
 use Rattle.replay.specs.Replay.{pieceOf, pieceBytes}
 use Rattle.export.specs.declared.types.Saved.{Saved}

@@ -10,10 +10,10 @@ use replay::types::Replayed;
 use state::types::Config;
 ghost use mathlib.Core.Path.{_≡_};
 ghost use lib.ListN.{length};
-ghost use Rattle.packet.specs.Judge.{judgeOf};
+ghost use Rattle.packetrules.specs.Judge.{judgeOf};
 ghost use Rattle.state.specs.Tables.{tablesOf};
-ghost use Rattle.effects.specs.Dispatch.{over};
-ghost use Rattle.steps.specs.Step.{packetOutput, faultOutput};
+ghost use Rattle.dispatch.specs.Dispatch.{over};
+ghost use Rattle.steprules.specs.Step.{packetOutput, faultOutput};
 ghost use Rattle.replay.specs.Replay.{replayOf, replayBytes};
 ghost use Rattle.export.specs.Boundary.{partOf, loadingOf, packetCall, tickCall, faultCall, resumeCall, resumeBytes};
 

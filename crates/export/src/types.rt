@@ -4,8 +4,8 @@ use state::types::Arm;
 use state::types::Config;
 use state::types::Counts;
 use state::types::Run;
-use steps::types::Answer;
-use steps::types::Stepped;
+use steprules::types::Answer;
+use steprules::types::Stepped;
 ghost use mathlib.Core.Path.{_≡_};
 ghost use Rattle.export.specs.Boundary.{inward, outward, handed, refusedCall};
 
@@ -100,6 +100,6 @@ pub fn step_refused(saved: Saved) -> Stepping
 {
     Stepping {
         run: saved,
-        answer: steps::types::bare(20),
+        answer: steprules::types::bare(20),
     }
 }

@@ -100,7 +100,7 @@ pub fn load(image: &[u8]) -> Loaded
         let n = config.nroutes;
         let m = config.nprotected;
         let k = config.nrows;
-        let refused = record::refusal(
+        let refused = recordcheck::refusal(
             last,
             kind,
             body,

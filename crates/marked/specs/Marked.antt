@@ -5,10 +5,11 @@ use mathlib.Core.List.{List, [], _∷_, _++_, map}
 use Prim.Native.Nat.{ℕ}
 use lib.ListN.{replicate, getD}
 use Rattle.wire.specs.Xor.{xorAll}
-use Rattle.packet.specs.Judge.{refusalOf, argumentsOf}
+use Rattle.packetrules.specs.Judge.{refusalOf, argumentsOf}
 use Rattle.state.specs.Rules.{own, basicsOk, routeOk, protectedOk, rowOk, startOk}
-use Rattle.image.specs.Records.{recordAt, recordsOf}
-use Rattle.image.specs.Image.{tablesOfRecords, startsOfRecords, sized, rowRefusal, refusalAfter, recordRefusal, loadOf}
+use Rattle.records.specs.Records.{recordAt, recordsOf}
+use Rattle.records.specs.Checks.{tablesOfRecords, startsOfRecords, sized, rowRefusal, refusalAfter, recordRefusal}
+use Rattle.image.specs.Image.{loadOf}
 use Rattle.history.specs.Plain.{Event, packet, tick, fault, Reply, replies}
 
 -- ---- configuration C and its packets

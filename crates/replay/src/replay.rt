@@ -9,8 +9,8 @@ ghost use mathlib.Core.Path.{_≡_};
 ghost use lib.ListN.{length};
 ghost use Rattle.state.specs.Tables.{tablesOf};
 ghost use Rattle.state.specs.Keeps.{Keeps};
-ghost use Rattle.effects.specs.Dispatch.{over};
-ghost use Rattle.image.specs.Records.{recordsOf};
+ghost use Rattle.dispatch.specs.Dispatch.{over};
+ghost use Rattle.records.specs.Records.{recordsOf};
 ghost use Rattle.replay.specs.Recording.{flat};
 ghost use Rattle.replay.specs.Replay.{piece, pathReplies, pieceOf, pieceBytes, replayOf, replayBytes};
 
@@ -27,7 +27,7 @@ pub fn inner_replay(config: Config, run: Run, recording: &[u8], out: &mut [u8]) 
     let mut count = 0;
     let mut wrote = 0;
     while read < recording.len() {
-        let end = image::record::end_of(recording, read);
+        let end = records::record::end_of(recording, read);
         if end == 0 {
             return Piece {
                 run: left,
@@ -37,7 +37,7 @@ pub fn inner_replay(config: Config, run: Run, recording: &[u8], out: &mut [u8]) 
                 wrote,
             };
         }
-        let kind = image::record::word_at(recording, read + 2);
+        let kind = records::record::word_at(recording, read + 2);
         let from = read + 4;
         let body = &recording[from..end];
         let refused = recording::refusal(kind, body.len());
@@ -61,7 +61,7 @@ pub fn inner_replay(config: Config, run: Run, recording: &[u8], out: &mut [u8]) 
         }
         let place = wrote + 6;
         if kind == 16 {
-            let sent = steps::on_packet::inner_packet(config, left, body, &mut out[place..]);
+            let sent = packetstep::inner_packet(config, left, body, &mut out[place..]);
             wrote = recording::put_numbers(out, wrote, sent.answer);
             left = sent.run;
             count += 1;
@@ -73,8 +73,8 @@ pub fn inner_replay(config: Config, run: Run, recording: &[u8], out: &mut [u8]) 
             count += 1;
             read = end;
         } else {
-            let fault = image::record::word_at(body, 0);
-            let faulted = steps::on_fault::inner_fault(config, left, fault, &mut out[place..]);
+            let fault = records::record::word_at(body, 0);
+            let faulted = faultstep::inner_fault(config, left, fault, &mut out[place..]);
             wrote = recording::put_numbers(out, wrote, faulted.answer);
             left = faulted.run;
             count += 1;

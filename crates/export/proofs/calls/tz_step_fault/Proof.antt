@@ -1,7 +1,7 @@
 -- `tz_step_fault`: an armed number that is neither 0 nor 1, or the step handed out.
 use mathlib.Core.Path.{_≡_, refl, ap, _∙_}
 use borrow.Author.Needs.{needs}
-use Rattle.steps.specs.FaultStepLaws.{fault-unsent}
+use Rattle.steprules.specs.FaultStepLaws.{fault-unsent}
 use Rattle.export.specs.declared.types.Stepping.{Stepping}
 use Rattle.export.specs.BoundaryLaws.{fault-untold, fault-told, fault-output}
 use Rattle.export.proofs.calls.tz_step_fault.Statement.{statement}

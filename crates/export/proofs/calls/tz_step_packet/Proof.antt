@@ -1,7 +1,7 @@
 -- `tz_step_packet`: an armed number that is neither 0 nor 1, or the step handed out.
 use mathlib.Core.Path.{_≡_, refl, ap, _∙_}
 use borrow.Author.Needs.{needs}
-use Rattle.steps.specs.StepLaws.{packet-unsent}
+use Rattle.steprules.specs.StepLaws.{packet-unsent}
 use Rattle.export.specs.declared.types.Stepping.{Stepping}
 use Rattle.export.specs.BoundaryLaws.{packet-untold, packet-told, packet-output}
 use Rattle.export.proofs.calls.tz_step_packet.Statement.{statement}

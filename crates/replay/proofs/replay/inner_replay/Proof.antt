@@ -6,7 +6,7 @@ use Prim.Native.Nat.{ℕ, _+_, _-_, _<_, _≤_}
 use native.Mathlib.Omega.{arith}
 use lib.ListN.{length, take, drop, length-drop}
 use borrow.Author.Tests.{eq-eqb, ne-eqb}
-use Rattle.image.specs.RecordLaws.{Whole, bodyAt}
+use Rattle.records.specs.RecordLaws.{Whole, bodyAt}
 use Rattle.history.specs.Plain.{packet, tick, fault}
 use Rattle.replay.specs.RecordingLaws.{fault-sized, packet-event, tick-event, fault-event, part-bytes}
 use Rattle.replay.specs.PathLaws.{packet-over, fault-over}
