@@ -42,9 +42,13 @@ piece t s rs xs =
       wrote = length (flat xs);
     }
 
+-- where a replay stopped, and why
+abbrev pub stoppedAt : Run → ℕ → ℕ → ℕ → ℕ → Piece
+stoppedAt s n read count wrote = record { run = s; stop = n; read = read; count = count; wrote = wrote }
+
 -- nothing read, nothing answered, nothing written
 abbrev pub idle : Run → ℕ → Piece
-idle s n = record { run = s; stop = n; read = 0; count = 0; wrote = 0 }
+idle s n = stoppedAt s n 0 0 0
 
 -- 20 where the state breaks its rules
 unfoldable pub pieceOf : Config → Run → List ℕ → ℕ → Piece
