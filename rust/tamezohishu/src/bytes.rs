@@ -22,7 +22,7 @@ pub const CONFIGURATION_BYTES: usize = 1182;
 
 /// The fields of both, in order, each handed to `v`. One list serves writing and reading.
 trait Fields {
-    fn each(&mut self, v: &mut dyn Visit);
+    fn each<V: Visit>(&mut self, v: &mut V);
 }
 
 /// What is done with a field.
@@ -73,7 +73,7 @@ impl Visit for Restore<'_> {
 }
 
 impl Fields for ffi::Run {
-    fn each(&mut self, v: &mut dyn Visit) {
+    fn each<V: Visit>(&mut self, v: &mut V) {
         v.byte(&mut self.armed);
         v.two(&mut self.ticks);
         let counts = &mut self.counts;
@@ -89,7 +89,7 @@ impl Fields for ffi::Run {
 }
 
 impl Fields for ffi::Config {
-    fn each(&mut self, v: &mut dyn Visit) {
+    fn each<V: Visit>(&mut self, v: &mut V) {
         v.two(&mut self.ground);
         v.two(&mut self.fault);
         v.two(&mut self.base);
