@@ -1,0 +1,102 @@
+//! `bin/cargo run --release -p differential`: the proved library beside the independent reading.
+//!
+//! `--seed N`, `--packets N`, `--images N`, `--sessions N`, `--states N` (cases of a part), `--part NAME` (that one alone),
+//! `--case K` (that one case of each part that runs, and no table).
+
+use differential::dice::Dice;
+use differential::parts::{Part, PARTS};
+use differential::tally::Tally;
+use std::process::ExitCode;
+use std::time::Instant;
+
+struct Wanted {
+    seed: u64,
+    part: Option<String>,
+    case: Option<u64>,
+    cases: [u64; 4],
+}
+
+fn wanted(mut words: impl Iterator<Item = String>) -> Result<Wanted, String> {
+    let mut wanted = Wanted {
+        seed: 20_011_231,
+        part: None,
+        case: None,
+        cases: PARTS.map(|part| part.cases),
+    };
+    while let Some(word) = words.next() {
+        let name = word.strip_prefix("--").ok_or(format!("what is {word}?"))?;
+        let value = words.next().ok_or(format!("{word} needs a value"))?;
+        let place = PARTS.iter().position(|part| part.name == name);
+        if name == "part" {
+            if !PARTS.iter().any(|part| part.name == value) {
+                return Err(format!("there is no part {value}"));
+            }
+            wanted.part = Some(value);
+            continue;
+        }
+        let number = value
+            .parse()
+            .map_err(|_| format!("{word} needs a number"))?;
+        match (name, place) {
+            ("seed", _) => wanted.seed = number,
+            ("case", _) => wanted.case = Some(number),
+            (_, Some(place)) => wanted.cases[place] = number,
+            _ => return Err(format!("what is {word}?")),
+        }
+    }
+    Ok(wanted)
+}
+
+/// Runs the cases of a part, up to the first difference. Gives how many there were, and whether they agreed.
+fn run(part: &Part, place: usize, wanted: &Wanted, tally: &mut Tally) -> bool {
+    let cases = match wanted.case {
+        Some(case) => case..case + 1,
+        None => 0..wanted.cases[place],
+    };
+    let began = Instant::now();
+    let number = cases.end - cases.start;
+    for case in cases {
+        let mut dice = Dice::new(wanted.seed, place as u64, case);
+        if let Err(told) = (part.case)(&mut dice, tally) {
+            let (name, seed) = (part.name, wanted.seed);
+            let seconds = began.elapsed().as_secs_f64();
+            println!("{name}: case {case} of seed {seed} differs ({seconds:.1} s)\n{told}");
+            println!("again: bin/cargo run --release -p differential -- --seed {seed} --part {name} --case {case}");
+            return false;
+        }
+    }
+    let seconds = began.elapsed().as_secs_f64();
+    println!("{}: {number} alike ({seconds:.1} s)", part.name);
+    true
+}
+
+fn main() -> ExitCode {
+    let wanted = match wanted(std::env::args().skip(1)) {
+        Ok(wanted) => wanted,
+        Err(told) => {
+            eprintln!("differential: {told}");
+            return ExitCode::from(2);
+        }
+    };
+    println!("seed {}", wanted.seed);
+    let mut tally = Tally::default();
+    let mut good = true;
+    for (place, part) in PARTS.iter().enumerate() {
+        if wanted.part.as_deref().is_none_or(|name| name == part.name) {
+            good &= run(part, place, &wanted, &mut tally);
+        }
+    }
+    // Some parts or one case show less, and say nothing of the whole.
+    if wanted.part.is_none() && wanted.case.is_none() {
+        print!("{}", tally.table());
+        for missing in tally.missing() {
+            println!("never met: {missing}");
+            good = false;
+        }
+    }
+    if good {
+        ExitCode::SUCCESS
+    } else {
+        ExitCode::FAILURE
+    }
+}

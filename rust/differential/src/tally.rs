@@ -1,0 +1,72 @@
+//! How often each number was met, and which were not.
+
+use std::fmt::Write;
+
+#[derive(Default)]
+pub struct Tally {
+    pub judge: Numbers,
+    pub load: Numbers,
+    pub step: Numbers,
+    pub stop: Numbers,
+}
+
+/// How often each number from 0 to 255 was met.
+pub struct Numbers([u64; 256]);
+
+impl Default for Numbers {
+    fn default() -> Numbers {
+        Numbers([0; 256])
+    }
+}
+
+impl Numbers {
+    pub fn met(&mut self, number: u8) {
+        self.0[usize::from(number)] += 1;
+    }
+
+    pub fn count(&self, number: u8) -> u64 {
+        self.0[usize::from(number)]
+    }
+}
+
+impl Tally {
+    /// The four lists, each with the numbers that have to be met.
+    fn lists(&self) -> [(&'static str, &Numbers, Vec<u8>); 4] {
+        [
+            (
+                "judge",
+                &self.judge,
+                [0].into_iter().chain(22..=29).collect(),
+            ),
+            ("loading", &self.load, (0..=7).collect()),
+            ("step", &self.step, (10..=15).chain(20..=34).collect()),
+            ("replay", &self.stop, vec![0, 1, 2, 3, 20, 21]),
+        ]
+    }
+
+    /// The table: a line for each list and eight numbers.
+    pub fn table(&self) -> String {
+        let mut table = String::new();
+        for (name, numbers, wanted) in self.lists() {
+            for (k, line) in wanted.chunks(8).enumerate() {
+                let head = if k == 0 { name } else { "" };
+                let _ = write!(table, "{head:8}");
+                for number in line {
+                    let _ = write!(table, "{:>5}:{:<8}", number, numbers.count(*number));
+                }
+                table.push('\n');
+            }
+        }
+        table
+    }
+
+    /// The numbers that were never met, as words.
+    pub fn missing(&self) -> Vec<String> {
+        let mut missing = Vec::new();
+        for (name, numbers, wanted) in self.lists() {
+            let never = wanted.into_iter().filter(|n| numbers.count(*n) == 0);
+            missing.extend(never.map(|n| format!("{name} {n}")));
+        }
+        missing
+    }
+}

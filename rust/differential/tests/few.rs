@@ -1,0 +1,44 @@
+//! A few cases of each part, so that `cargo test` has them too. The whole is the program of this crate.
+
+use differential::dice::Dice;
+use differential::parts::PARTS;
+use differential::tally::Tally;
+
+fn alike(place: usize, cases: u64) {
+    let mut tally = Tally::default();
+    for case in 0..cases {
+        let mut dice = Dice::new(1, place as u64, case);
+        let told = (PARTS[place].case)(&mut dice, &mut tally);
+        assert_eq!(told, Ok(()), "case {case} of {}", PARTS[place].name);
+    }
+}
+
+#[test]
+fn packets() {
+    alike(0, 50_000);
+}
+
+#[test]
+fn images() {
+    alike(1, 1_000);
+}
+
+#[test]
+fn sessions() {
+    alike(2, 2);
+}
+
+#[test]
+fn states() {
+    alike(3, 1_000);
+}
+
+/// Two cases are different, and one is the same each time.
+#[test]
+fn dice_are_of_their_case() {
+    let first = |seed, part, case| Dice::new(seed, part, case).next();
+    assert_eq!(first(1, 2, 3), first(1, 2, 3));
+    assert_ne!(first(1, 2, 3), first(1, 2, 4));
+    assert_ne!(first(1, 2, 3), first(1, 3, 3));
+    assert_ne!(first(1, 2, 3), first(2, 2, 3));
+}

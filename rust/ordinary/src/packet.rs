@@ -1,0 +1,51 @@
+//! The packet judge.
+
+use crate::step::Outcome;
+
+/// What an accepted packet carries. The arguments are the packet's own bytes.
+#[derive(Clone, Copy, Debug, PartialEq, Eq)]
+pub struct Command<'a> {
+    pub id: u16,
+    pub arguments: &'a [u8],
+}
+
+/// The command of a packet, or the first refusal.
+pub fn judge(packet: &[u8]) -> Result<Command<'_>, Outcome> {
+    if packet.len() < 6 {
+        return Err(Outcome::Short);
+    }
+    let field = u16::from_be_bytes([packet[4], packet[5]]);
+    if packet.len() != 7 + usize::from(field) {
+        return Err(Outcome::BadSize);
+    }
+    if packet[0] >> 5 != 0 {
+        return Err(Outcome::BadVersion);
+    }
+    if packet[0] & 0x10 == 0 {
+        return Err(Outcome::BadType);
+    }
+    if packet[0] & 0x08 == 0 {
+        return Err(Outcome::NoSecondary);
+    }
+    if packet.iter().fold(0, |xor, byte| xor ^ byte) != 0 {
+        return Err(Outcome::BadXor);
+    }
+    let pads = usize::from(packet[6] & 0x7F);
+    let data = packet.len() - 6;
+    if data < pads + 4 {
+        return Err(Outcome::NoArguments);
+    }
+    let arguments = &packet[10..packet.len() - pads];
+    if arguments.len() > 255 {
+        return Err(Outcome::TooLong);
+    }
+    Ok(Command {
+        id: u16::from_be_bytes([packet[8], packet[9]]),
+        arguments,
+    })
+}
+
+/// The argument part of a packet, or the empty part at its start.
+pub fn arguments(packet: &[u8]) -> &[u8] {
+    judge(packet).map_or(&packet[..0], |command| command.arguments)
+}

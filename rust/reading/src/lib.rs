@@ -1,0 +1,18 @@
+//! An independent reading of the paper "The onboard command path, rule by rule"
+//! (01-scope.md). Each rule is quoted above the code that reads it; where the
+//! paper is silent or double, POINTS.md says what was chosen.
+#![forbid(unsafe_code)]
+
+mod judge;
+mod load;
+mod session;
+mod state;
+mod step;
+
+pub use judge::{arguments, judge, Judged};
+pub use load::{load, Loaded};
+pub use session::session;
+pub use state::{keeps_rules, Config, Run};
+pub use state::{A, D, F, I, P, R, U};
+pub use state::{MAX_ARGUMENTS, MAX_PROTECTED, MAX_ROUTES, MAX_ROWS};
+pub use step::{step_fault, step_packet, step_tick, Answer};

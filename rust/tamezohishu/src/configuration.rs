@@ -1,0 +1,101 @@
+//! The configuration: loaded once, and only ever read.
+
+use crate::ffi;
+use crate::numbers::LoadRefusal;
+use crate::state::State;
+use std::{error, fmt};
+
+/// A configuration. It comes from [`Configuration::load`], or from bytes that an earlier one was saved to.
+#[derive(Clone, PartialEq, Eq, Debug)]
+pub struct Configuration(pub(crate) ffi::Config);
+
+/// A command id and the destination it goes to.
+#[derive(Clone, Copy, PartialEq, Eq, Debug)]
+pub struct Route {
+    pub id: u16,
+    pub destination: u8,
+}
+
+/// A fault and the command that answers it.
+#[derive(Clone, Copy, PartialEq, Eq, Debug)]
+pub struct FaultRow<'a> {
+    pub fault: u16,
+    pub response: u16,
+    pub latching: bool,
+    pub arguments: &'a [u8],
+}
+
+/// An image that was refused.
+#[derive(Clone, Copy, PartialEq, Eq, Debug)]
+pub struct LoadError {
+    pub refusal: LoadRefusal,
+    /// Where the first bad record begins.
+    pub offset: usize,
+}
+
+impl fmt::Display for LoadError {
+    fn fmt(&self, f: &mut fmt::Formatter<'_>) -> fmt::Result {
+        let LoadError { refusal, offset } = self;
+        write!(f, "record at byte {offset}: {refusal}")
+    }
+}
+
+impl error::Error for LoadError {}
+
+impl Configuration {
+    /// Reads a configuration image: the configuration and the state it starts in, or the refusal of its first bad record.
+    pub fn load(image: &[u8]) -> Result<(Configuration, State), LoadError> {
+        // SAFETY: the pointer is not null and has `len` bytes that nothing writes to meanwhile.
+        let loaded = unsafe { ffi::tz_load(image.as_ptr(), image.len()) };
+        match loaded.answer {
+            0 => Ok((Configuration(loaded.config), State(loaded.run))),
+            refusal => Err(LoadError {
+                refusal: LoadRefusal::from(refusal),
+                offset: loaded.offset,
+            }),
+        }
+    }
+
+    /// The source number of commands from the ground.
+    pub fn ground_source(&self) -> u16 {
+        self.0.ground
+    }
+
+    /// The source number of fault responses.
+    pub fn fault_source(&self) -> u16 {
+        self.0.fault
+    }
+
+    /// The first of the eight own ids.
+    pub fn own_base(&self) -> u16 {
+        self.0.base
+    }
+
+    // A count beyond its table, in a configuration made from damaged bytes, gives the whole table below.
+
+    /// The routes in use, by rising id.
+    pub fn routes(&self) -> impl Iterator<Item = Route> + '_ {
+        let both = self.0.routeids.iter().zip(&self.0.dests);
+        let used = both.take(self.0.nroutes);
+        used.map(|(&id, &destination)| Route { id, destination })
+    }
+
+    /// The protected ids in use, rising.
+    pub fn protected_ids(&self) -> &[u16] {
+        let ids = &self.0.protected_ids;
+        &ids[..self.0.nprotected.min(ids.len())]
+    }
+
+    /// The fault rows in use, by rising fault id.
+    pub fn fault_rows(&self) -> impl Iterator<Item = FaultRow<'_>> + '_ {
+        (0..self.0.nrows.min(ffi::ROWS)).map(|k| {
+            let places = &self.0.args[k * ffi::ROW_ARGS..][..ffi::ROW_ARGS];
+            FaultRow {
+                fault: self.0.faultids[k],
+                response: self.0.responses[k],
+                latching: self.0.latching[k] != 0,
+                arguments: &places[..usize::from(self.0.argcounts[k]).min(ffi::ROW_ARGS)],
+            }
+        })
+    }
+}

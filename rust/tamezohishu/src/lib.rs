@@ -1,0 +1,67 @@
+//! # The proved onboard command path, for ground programs in Rust
+//!
+//! The path takes telecommand packets, clock ticks and fault numbers, and gives back commands for destinations on board. It is
+//! written and proved in another language and linked as a static library; this crate calls it through its C boundary
+//! (`include/tamezohishu.h`) and adds names, and nothing else: no rule of the path is decided here. So a ground program that
+//! asks "what would the satellite answer" gets the answer of the proved code itself.
+//!
+//! - [`Configuration::load`] reads a configuration image, and gives the configuration and the [`State`] it starts in.
+//! - [`State::packet`], [`State::tick`] and [`State::fault`] are the steps. Each gives an [`Answer`] of four numbers.
+//! - [`judge`] and [`arguments`] ask about a packet by itself.
+//! - [`replay`] runs a whole [`Recording`] under an image, [`State::resume`] a piece of one.
+//! - [`State::to_bytes`] and [`State::from_bytes`] keep a state between two runs of a program. Bytes that were damaged make a
+//!   state whose every step answers [`Outcome::BadState`]: the library judges a state, this crate never does.
+//!
+//! Nothing here panics, whatever the bytes. A number that this crate has no name for is kept (`Other`).
+//!
+//! ```
+//! use tamezohishu::{Configuration, Outcome, ROOM};
+//!
+//! # fn main() -> Result<(), tamezohishu::LoadError> {
+//! // ground source 1, fault source 2, own ids from 100; command 20 goes to destination 2 and is protected
+//! let image = [6, 0, 1, 0, 1, 0, 2, 0, 100, 0, 3, 0, 2, 0, 20, 0, 2, 2, 0, 3, 0, 20, 0];
+//! let (configuration, mut state) = Configuration::load(&image)?;
+//! let command = [0x18, 0x01, 0xC0, 0x00, 0x00, 0x03, 0x00, 0xCE, 0x00, 0x14];
+//! let arm = [0x18, 0x01, 0xC0, 0x00, 0x00, 0x04, 0x00, 0xBB, 0x00, 0x64, 0x02];
+//! let mut out = [0; ROOM];
+//!
+//! let answer = state.packet(&configuration, &command, &mut out);
+//! assert_eq!(answer.outcome, Outcome::Protected);
+//! assert_eq!(answer.outcome.to_string(), "protected and unarmed");
+//!
+//! assert_eq!(state.packet(&configuration, &arm, &mut out).outcome, Outcome::Armed);
+//! let answer = state.packet(&configuration, &command, &mut out);
+//! assert_eq!(answer.to_string(), "10 20 2 5"); // dispatched, command 20, destination 2, 5 bytes
+//! assert_eq!(out[..5], [0, 1, 0, 20, 0]);
+//! assert_eq!(state.counters().accepted, 3);
+//! # Ok(())
+//! # }
+//! ```
+
+mod bytes;
+mod configuration;
+mod ffi;
+mod numbers;
+mod packet;
+mod replay;
+mod state;
+
+pub use bytes::{CONFIGURATION_BYTES, STATE_BYTES};
+pub use configuration::{Configuration, FaultRow, LoadError, Route};
+pub use numbers::{FaultState, LoadRefusal, Outcome, Refusal, Stop};
+pub use packet::{arguments, judge, Judged};
+pub use replay::{replay, Piece, Recording, Replay, Replies, Reply, TooLong};
+pub use state::{Answer, Counters, State};
+
+/// Most routes of a configuration.
+pub const ROUTES: usize = ffi::ROUTES;
+/// Most protected ids of a configuration.
+pub const PROTECTED_IDS: usize = ffi::PROTECTED_IDS;
+/// Most fault rows of a configuration.
+pub const ROWS: usize = ffi::ROWS;
+/// Most argument bytes of a fault row.
+pub const ROW_ARGUMENTS: usize = ffi::ROW_ARGS;
+/// Output room that a step asks for, in bytes, whatever it writes.
+pub const ROOM: usize = 260;
+/// Output room that an event of a replay asks for: six bytes of numbers and a step's room.
+pub const REPLY_ROOM: usize = 266;
