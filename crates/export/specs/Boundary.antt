@@ -12,8 +12,8 @@ use Rattle.steprules.specs.declared.types.Stepped.{Stepped}
 use Rattle.steprules.specs.Bare.{bareAnswer}
 use Rattle.steprules.specs.Step.{packetStepOf, tickStepOf, faultStepOf}
 use Rattle.image.specs.Image.{loadOf}
-use Rattle.replay.specs.declared.types.Piece.{Piece}
-use Rattle.replay.specs.Replay.{pieceOf, pieceBytes}
+use Rattle.replayrules.specs.declared.types.Piece.{Piece}
+use Rattle.replayrules.specs.Replay.{pieceOf, pieceBytes}
 use Rattle.export.specs.declared.types.Saved.{Saved}
 use Rattle.export.specs.declared.types.Part.{Part}
 use Rattle.export.specs.declared.types.Loading.{Loading}

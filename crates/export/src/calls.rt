@@ -6,7 +6,7 @@ use crate::types::Portion;
 use crate::types::Saved;
 use crate::types::Stepping;
 use packet::judge::Judged;
-use replay::types::Replayed;
+use replayrules::types::Replayed;
 use state::types::Config;
 ghost use mathlib.Core.Path.{_≡_};
 ghost use lib.ListN.{length};
@@ -14,7 +14,7 @@ ghost use Rattle.packetrules.specs.Judge.{judgeOf};
 ghost use Rattle.state.specs.Tables.{tablesOf};
 ghost use Rattle.dispatch.specs.Dispatch.{over};
 ghost use Rattle.steprules.specs.Step.{packetOutput, faultOutput};
-ghost use Rattle.replay.specs.Replay.{replayOf, replayBytes};
+ghost use Rattle.replayrules.specs.Replay.{replayOf, replayBytes};
 ghost use Rattle.export.specs.Boundary.{partOf, loadingOf, packetCall, tickCall, faultCall, resumeCall, resumeBytes};
 
 // The judge by itself.
