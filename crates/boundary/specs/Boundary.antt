@@ -14,11 +14,11 @@ use Rattle.steprules.specs.Step.{packetStepOf, tickStepOf, faultStepOf}
 use Rattle.image.specs.Image.{loadOf}
 use Rattle.replayrules.specs.declared.types.Piece.{Piece}
 use Rattle.replayrules.specs.Replay.{pieceOf, pieceBytes}
-use Rattle.export.specs.declared.types.Saved.{Saved}
-use Rattle.export.specs.declared.types.Part.{Part}
-use Rattle.export.specs.declared.types.Loading.{Loading}
-use Rattle.export.specs.declared.types.Stepping.{Stepping}
-use Rattle.export.specs.declared.types.Portion.{Portion}
+use Rattle.boundary.specs.declared.types.Saved.{Saved}
+use Rattle.boundary.specs.declared.types.Part.{Part}
+use Rattle.boundary.specs.declared.types.Loading.{Loading}
+use Rattle.boundary.specs.declared.types.Stepping.{Stepping}
+use Rattle.boundary.specs.declared.types.Portion.{Portion}
 
 -- ---- a run, saved and taken back
 
