@@ -5,6 +5,7 @@ use Prim.Native.Nat.{ℕ, _-_}
 use lib.Dec.{eqb}
 use lib.ListN.{getD}
 use Rattle.state.specs.declared.types.Arm.{Arm}
+use Rattle.arming.specs.declared.Ticked.{Ticked}
 
 abbrev pub unarmed : Arm
 unarmed = record { armed = false; ticks = 0 }
@@ -16,10 +17,14 @@ armedFor ticks = record { armed = true; ticks = ticks }
 abbrev pub fullTime : ℕ → ℕ
 fullTime timeout = timeout
 
--- a well-formed arm command (answer 11) arms and sets the ticks to its timeout, also when already armed; every other
--- accepted packet unarms, whatever its answer
+-- a well-formed arm command (answer 11) arms and sets the ticks, also when already armed; every other accepted packet unarms,
+-- whatever its answer
+unfoldable pub armSet : ℕ → ℕ → Arm
+armSet n ticks = cond (eqb n 11) (armedFor ticks) unarmed
+
+-- the ticks are those of the packet's timeout, its first argument byte
 unfoldable pub armAfter : ℕ → List ℕ → Arm
-armAfter n args = cond (eqb n 11) (armedFor (fullTime (getD args 0 0))) unarmed
+armAfter n args = armSet n (fullTime (getD args 0 0))
 
 -- a tick takes one from a nonzero remainder while armed; reaching zero unarms
 unfoldable pub ticked : Bool → ℕ → Arm
@@ -29,3 +34,7 @@ ticked armed ticks =
 -- 15 is a tick that ended the armed state
 unfoldable pub tickAnswer : Bool → ℕ → ℕ
 tickAnswer armed ticks = cond (armed && eqb ticks 1) 15 14
+
+-- a tick, with its answer
+abbrev pub tickedBy : Arm → Ticked
+tickedBy arm = record { arm = ticked (arm .armed) (arm .ticks); answer = tickAnswer (arm .armed) (arm .ticks) }

@@ -1,27 +1,28 @@
--- The ways of a tick, one law each.
+-- The ways of a tick, one law each: the record that it leaves and its answer.
 use mathlib.Core.Path.{_≡_}
-use mathlib.Core.Bool.{Bool, true, false, not, _&&_}
+use mathlib.Core.Bool.{Bool, true, false}
 use Prim.Native.Nat.{ℕ, _-_}
-use lib.Dec.{eqb}
 use borrow.Author.Tests.{eq-eqb, ne-eqb}
-use Rattle.arming.specs.Arming.{unarmed, armedFor, ticked}
+use Rattle.state.specs.declared.types.Arm.{Arm}
+use Rattle.arming.specs.Arming.{unarmed, armedFor, ticked, tickAnswer, tickedBy}
 
 module _ (armed : Bool) (ticks : ℕ) where
-  idle : (armed && not (eqb ticks 0)) ≡ false → record { armed = armed; ticks = ticks } ≡ ticked armed ticks
-  unfolding ticked
-  idle e = rw e
+  abbrev here : Arm
+  here = record { armed = armed; ticks = ticks }
 
-  pub tick-unarmed : armed ≡ false → record { armed = armed; ticks = ticks } ≡ ticked armed ticks
-  tick-unarmed e = idle (simp e)
+  pub tick-unarmed : armed ≡ false → record { arm = here; answer = 14 } ≡ tickedBy here
+  unfolding ticked tickAnswer
+  tick-unarmed e = rw e
 
   module _ (a : armed ≡ true) where
-    pub tick-lasting : ticks ≡ 0 → record { armed = armed; ticks = ticks } ≡ ticked armed ticks
-    tick-lasting e = idle (simp (a, eq-eqb _ _ e))
+    pub tick-lasting : ticks ≡ 0 → record { arm = here; answer = 14 } ≡ tickedBy here
+    unfolding ticked tickAnswer
+    tick-lasting e = simp (a, e)
 
-    pub tick-last : (ticks ≡ 0 → ⊥) → ticks ≡ 1 → unarmed ≡ ticked armed ticks
-    unfolding ticked
+    pub tick-last : (ticks ≡ 0 → ⊥) → ticks ≡ 1 → record { arm = unarmed; answer = 15 } ≡ tickedBy here
+    unfolding ticked tickAnswer
     tick-last h e = simp (a, ne-eqb _ _ h, eq-eqb _ _ e)
 
-    pub tick-one : (ticks ≡ 0 → ⊥) → (ticks ≡ 1 → ⊥) → armedFor (ticks - 1) ≡ ticked armed ticks
-    unfolding ticked
+    pub tick-one : (ticks ≡ 0 → ⊥) → (ticks ≡ 1 → ⊥) → record { arm = armedFor (ticks - 1); answer = 14 } ≡ tickedBy here
+    unfolding ticked tickAnswer
     tick-one h e = simp (a, ne-eqb _ _ h, ne-eqb _ _ e)

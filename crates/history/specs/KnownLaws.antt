@@ -21,7 +21,7 @@ use Rattle.state.specs.Rules.{member}
 use Rattle.image.specs.Records.{Record}
 use Rattle.image.specs.Image.{ofKind, tablesOfRecords}
 use Rattle.faultstates.specs.FaultStates.{rowAfter, actOn, rowFor, stateFor}
-use Rattle.arming.specs.Arming.{unarmed, armedFor, armAfter, ticked, tickAnswer}
+use Rattle.arming.specs.Arming.{unarmed, armedFor, armSet, armAfter, ticked, tickAnswer}
 use Rattle.counters.specs.Counters.{up, packetCounts, rejectedCounts, faultCounts}
 use Rattle.answers.specs.RowLaws.{not-fault}
 use Rattle.answers.specs.Own.{onRow, eventOf}
@@ -106,7 +106,7 @@ and-true false = refl
 module _ (image : List Record) where
   arm-packet : (p : List ℕ) (n : ℕ) → eqb n 11 ≡ isArm image p
       → armAfter n (argumentsOf p) ≡ record { armed = lasts image (some p) 0; ticks = left image (some p) 0 }
-  unfolding armAfter
+  unfolding armAfter armSet
   arm-packet p n e = rw (e, armed-now (timeout image p), and-true (isArm image p), sub-zero (timeout image p)) (go (isArm image p))
     where
       go : (b : Bool) → cond {A = Arm} b (armedFor (timeout image p)) unarmed ≡ record { armed = b; ticks = cond b (timeout image p) 0 }

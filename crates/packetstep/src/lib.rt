@@ -90,7 +90,7 @@ pub fn inner_packet(config: Config, run: Run, packet: &[u8], out: &mut [u8]) -> 
     let states = states_after(old, n, k, args, &config.faultids, config.nrows);
     let written = dispatch::send(out, n, config.ground, id, args);
     let next = Run {
-        arm: arming::after_packet(n, args),
+        arm: arming::after_packet(run.arm, n, args),
         counts: counters::after_packet(run.counts, n, k),
         states: states,
     };

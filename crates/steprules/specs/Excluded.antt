@@ -16,7 +16,8 @@ use Rattle.state.specs.declared.types.Config.{Config}
 use Rattle.state.specs.declared.types.Run.{Run}
 use Rattle.state.specs.Tables.{Tables}
 use Rattle.steprules.specs.declared.types.Stepped.{Stepped}
-use Rattle.arming.specs.Arming.{unarmed, armAfter, tickAnswer}
+use Rattle.arming.specs.declared.Ticked.{Ticked}
+use Rattle.arming.specs.Arming.{unarmed, armSet, armAfter, tickAnswer}
 use Rattle.arming.specs.ArmingLaws.{tick-last}
 use Rattle.answers.specs.Answers.{blocked, answerTo}
 use Rattle.steprules.specs.Step.{packetStepOf, faultStepOf, rejectedStep, tickStep}
@@ -40,7 +41,7 @@ rejected-leaves-arm c run p room h l = ap (λ (r : Run). r .arm) (rejected-moves
 -- ".. or letting an unregistered id stay armed": every accepted packet but an arm that was taken leaves the path unarmed
 module _ (c : Config) (run : Run) (p : List ℕ) (room : ℕ) where
   unarms : (r : Stepped) → PacketSteps c run p room r → (20 ≤ r .answer .answer → r .answer .answer ≤ 29 → ⊥) → (r .answer .answer ≡ 11 → ⊥) → r .run .arm ≡ unarmed
-  unfolding rejectedStep armAfter
+  unfolding rejectedStep armAfter armSet
   unarms r (outcomes.breaks e) h z = absurd (h (omega arith) (omega arith))
   unarms r (outcomes.cramped e q) h z = absurd (h (omega arith) (omega arith))
   unarms r (outcomes.rejects e q n o y) h z = absurd (h (omega (arith, refused-range o y)) (omega (arith, refused-range o y)))
@@ -53,7 +54,7 @@ module _ (c : Config) (run : Run) (p : List ℕ) (room : ℕ) where
 -- "Testing the timeout before the tick's subtraction, one tick late": the tick that takes the last one ends it
 pub last-tick-ends : (run : Run) → run .arm .armed ≡ true → run .arm .ticks ≡ 1 → (tickStep run .answer .answer ≡ 15) × (tickStep run .run .arm ≡ unarmed)
 unfolding tickStep tickAnswer
-last-tick-ends run a e = (simp (a, e), sym (tick-last (run .arm .armed) (run .arm .ticks) a (λ z. omega arith) e))
+last-tick-ends run a e = (simp (a, e), ap (λ (t : Ticked). t .arm) (sym (tick-last (run .arm .armed) (run .arm .ticks) a (λ z. omega arith) e)))
 
 -- "Checking a protected own command's length before its protection": 30, whatever the arguments
 pub protection-before-length : (t : Tables) (id : ℕ) (args : List ℕ) → blocked (t .protected) false id ≡ true → answerTo t false id args ≡ 30

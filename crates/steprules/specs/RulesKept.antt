@@ -19,7 +19,7 @@ use Rattle.state.specs.Tables.{FaultRow, Tables, tablesOf}
 use Rattle.state.specs.Keeps.{Clear, StateOk, StatesOk, ArmOk, RunOk, Keeps}
 use Rattle.faultstates.specs.FaultStates.{disabled, enabled, latched, enable, disable, clear, fault, nextState, rowAfter, actOn, clearAll}
 use Rattle.answers.specs.Own.{onRow, eventOf, faultArg}
-use Rattle.arming.specs.Arming.{unarmed, armedFor, fullTime, armAfter, ticked}
+use Rattle.arming.specs.Arming.{unarmed, armedFor, fullTime, armSet, armAfter, ticked}
 use Rattle.answers.specs.Answers.{answerTo, faultAnswer}
 use Rattle.answers.specs.OwnLaws.{row-range}
 use Rattle.steprules.specs.Step.{statesAfter, acceptedStep, rejectedStep, packetStep, tickStep, faulted, faultStep}
@@ -100,7 +100,7 @@ states-ok rows n k args ss h = go (eqb n 12) (onRow k) refl (eqb k 7)
 -- ---- the arm record
 
 arm-after-ok : (n : ℕ) (args : List ℕ) → getD args 0 0 < 256 → ArmOk (armAfter n args .armed) (armAfter n args .ticks)
-unfolding armAfter
+unfolding armAfter armSet
 arm-after-ok n args h = go (eqb n 11)
   where
     go : (b : Bool) → ArmOk (cond {A = Arm} b (armedFor (fullTime (getD args 0 0))) unarmed .armed) (cond {A = Arm} b (armedFor (fullTime (getD args 0 0))) unarmed .ticks)

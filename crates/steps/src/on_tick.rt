@@ -11,13 +11,13 @@ pub fn inner_tick(run: Run) -> Stepped
     ensures { λ r. ⌜ r ≡ tickStep run ⌝ }
 {
     let old = run.arm;
-    let n = arming::tick_answer(old);
-    let next = arming::after_tick(old);
+    let ticked = arming::tick_of(old);
+    let next = ticked.arm;
     let mut left = run;
     left.arm = next;
     Stepped {
         run: left,
-        answer: types::bare(n),
+        answer: types::bare(ticked.answer),
     }
 }
 

@@ -1,12 +1,12 @@
--- `after_tick`: unarmed, no remainder, the last tick, one tick less.
+-- `tick_by`: unarmed, no remainder, the last tick, one tick less.
 use Rattle.arming.specs.ArmingLaws.{tick-unarmed, tick-lasting, tick-last, tick-one}
 use borrow.Author.Tests.{not-true, not-false}
 use borrow.Author.Needs.{needs}
-use Rattle.arming.proofs.after_tick.Statement.{statement}
-use Rattle.arming.proofs.after_tick.Tie as tie
+use Rattle.arming.proofs.tick_by.Statement.{statement}
+use Rattle.arming.proofs.tick_by.Tie as tie
 
-pub after-tick-spec : {M : Type 1} → statement M
-after-tick-spec = tie.close
+pub tick-by-spec : {M : Type 1} → statement M
+tick-by-spec = tie.close
     (tie.spec
     (λ c. let arm = c .before .before .args .arm in tick-unarmed _ _ (not-true (arm .armed) (c .if1 .taken)))
     (λ c. let arm = c .before .before .before .args .arm in tick-lasting _ _ (not-false (arm .armed) (c .before .if1 .left)) (c .if2 .taken))
