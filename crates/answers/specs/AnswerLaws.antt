@@ -12,11 +12,11 @@ use Rattle.state.specs.Rules.{member}
 use Rattle.state.specs.Lookup.{placeIn, Column}
 use Rattle.state.specs.LookupLaws.{is-member, no-member, below-member}
 use Rattle.state.specs.ArrayLaws.{map-listed, column-is}
-use Rattle.effects.specs.FaultStates.{enabled, stateFor}
+use Rattle.faultstates.specs.FaultStates.{enabled, stateFor}
 use Rattle.answers.specs.Answers.{blocked, ownAnswer, routeAnswer, answerFor, faultAnswer}
-use Rattle.effects.specs.Dispatch.{for10, destOf}
+use Rattle.dispatch.specs.Dispatch.{for10, destOf}
 use Rattle.answers.specs.OwnLaws.{own-not-10}
-use Rattle.effects.specs.RowLaws.{listed-at, dest-at}
+use Rattle.answers.specs.RowLaws.{listed-at, dest-at}
 
 -- the arrays of a state that keeps its rules, as they are lent
 pub record Lent (protected : List ℕ) (nprotected : ℕ) (faultids : List ℕ) (nrows : ℕ) (routeids dests : List ℕ) (nroutes : ℕ) : Type 0 where

@@ -4,10 +4,10 @@ use mathlib.Core.List.{List, map}
 use Prim.Native.Nat.{ℕ}
 use lib.Dec.{eqb, ltb}
 use lib.ListN.{length}
-use Rattle.packet.specs.Judge.{check}
+use Rattle.packetrules.specs.Judge.{check}
 use Rattle.state.specs.Tables.{FaultRow, Tables, faultId, routed}
 use Rattle.state.specs.Rules.{member}
-use Rattle.effects.specs.FaultStates.{enabled, stateFor}
+use Rattle.faultstates.specs.FaultStates.{enabled, stateFor}
 use Rattle.answers.specs.Own.{ownNumber, argsWanted, onRow, faultArg}
 
 -- protected and unarmed

@@ -1,4 +1,5 @@
 pub mod Own
 pub mod Answers
 pub mod OwnLaws
+pub mod RowLaws
 pub mod AnswerLaws

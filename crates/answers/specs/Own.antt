@@ -4,7 +4,7 @@ use mathlib.Core.List.{List, [], _∷_}
 use Prim.Native.Nat.{ℕ, _-_}
 use lib.Dec.{leb}
 use lib.ListN.{getD}
-use Rattle.packet.specs.Layout.{byte, word}
+use Rattle.packetrules.specs.Layout.{byte, word}
 use Rattle.state.specs.Rules.{own}
 
 -- the id less own base selects: 0 arm, 1 reset counters, 2 no-op, 3 no-op with argument, 4 enable a fault response, 5

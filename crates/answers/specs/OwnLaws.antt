@@ -7,7 +7,7 @@ use native.Mathlib.Omega.{arith}
 use lib.Dec.{leb, eqb}
 use lib.ListN.{length, List·getD-eq-default}
 use borrow.Author.Tests.{eq-eqb, ne-eqb, le-leb, lt-leb, leb-true}
-use Rattle.packet.specs.Judge.{check}
+use Rattle.packetrules.specs.Judge.{check}
 use Rattle.state.specs.Rules.{own, member}
 use Rattle.answers.specs.Own.{ownNumber, argsWanted, onRow, faultArg}
 use Rattle.answers.specs.Answers.{ownAnswer}

@@ -1,3 +1,2 @@
-// Which answer an accepted packet gets: the protection, the path's own commands, the routes.
-pub mod decide;
+// The answers to an accepted packet and to a fault, as definitions and laws, and those of the path's own commands.
 pub mod own;

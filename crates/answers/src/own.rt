@@ -89,7 +89,7 @@ pub fn answer(k: u8, args: &[u8], ids: &[u16; 32], n: usize) -> u8
         return 31;
     }
     if c.row {
-        if state::lookup::place(ids, n, fault_arg(args)) >= n {
+        if lookup::place(ids, n, fault_arg(args)) >= n {
             return 32;
         }
         return 12;

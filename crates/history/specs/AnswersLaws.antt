@@ -7,12 +7,12 @@ use native.Mathlib.Omega.{arith}
 use lib.Dec.{eqb, ltb, eqb·suc-zero}
 use lib.ListN.{length}
 use borrow.Author.Tests.{lt-ltb, ne-eqb}
-use Rattle.packet.specs.Layout.{commandId}
-use Rattle.packet.specs.Judge.{check, argumentsOf}
+use Rattle.packetrules.specs.Layout.{commandId}
+use Rattle.packetrules.specs.Judge.{check, argumentsOf}
 use Rattle.state.specs.Tables.{Tables, faultId, routed}
 use Rattle.state.specs.Rules.{own, member}
 use Rattle.image.specs.Records.{Record}
-use Rattle.effects.specs.Dispatch.{destOf}
+use Rattle.dispatch.specs.Dispatch.{destOf}
 use Rattle.answers.specs.Own.{ownNumber}
 use Rattle.answers.specs.OwnLaws.{both, own-range}
 use Rattle.answers.specs.Answers.{blocked, routeAnswer, answerFor, answerTo}

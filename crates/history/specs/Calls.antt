@@ -11,10 +11,10 @@ use Rattle.state.specs.Tables.{Tables, tablesOf}
 use Rattle.state.specs.Test.{keepsRules}
 use Rattle.state.specs.Keeps.{Keeps}
 use Rattle.state.specs.KeepsLaws.{kept, keeps}
-use Rattle.steps.specs.declared.types.Stepped.{Stepped}
-use Rattle.steps.specs.Bare.{unchanged}
-use Rattle.steps.specs.Step.{packetStepOf, tickStepOf, faultStepOf}
-use Rattle.steps.specs.RulesKept.{Bytes, packet-keeps, tick-keeps, fault-keeps}
+use Rattle.steprules.specs.declared.types.Stepped.{Stepped}
+use Rattle.steprules.specs.Bare.{unchanged}
+use Rattle.steprules.specs.Step.{packetStepOf, tickStepOf, faultStepOf}
+use Rattle.steprules.specs.RulesKept.{Bytes, packet-keeps, tick-keeps, fault-keeps}
 use Rattle.image.specs.Records.{Record, recordsOf}
 use Rattle.image.specs.Image.{loadOf}
 use Rattle.image.specs.Theorems.{loaded-tables, loaded-keeps}

@@ -11,26 +11,26 @@ use native.Mathlib.Omega.{arith}
 use lib.Dec.{eqb, ltb, lit<}
 use lib.ListN.{length, replicate, length-map}
 use borrow.Author.Tests.{lt-ltb, le-ltb, ne-eqb, eqb-true, eqb-false}
-use Rattle.packet.specs.Layout.{commandId}
-use Rattle.packet.specs.Judge.{check, refusalOf, argumentsOf}
-use Rattle.packet.specs.Laws.{outcome}
+use Rattle.packetrules.specs.Layout.{commandId}
+use Rattle.packetrules.specs.Judge.{check, refusalOf, argumentsOf}
+use Rattle.packetrules.specs.Laws.{outcome}
 use Rattle.state.specs.declared.types.Arm.{Arm}
 use Rattle.state.specs.declared.types.Run.{Run}
 use Rattle.state.specs.Tables.{faultId, padded}
 use Rattle.state.specs.Rules.{member}
 use Rattle.image.specs.Records.{Record}
 use Rattle.image.specs.Image.{ofKind, tablesOfRecords}
-use Rattle.effects.specs.FaultStates.{rowAfter, actOn, rowFor, stateFor}
-use Rattle.effects.specs.Arming.{unarmed, armedFor, armAfter, ticked, tickAnswer}
-use Rattle.effects.specs.Counters.{up, packetCounts, rejectedCounts, faultCounts}
-use Rattle.effects.specs.RowLaws.{not-fault}
+use Rattle.faultstates.specs.FaultStates.{rowAfter, actOn, rowFor, stateFor}
+use Rattle.arming.specs.Arming.{unarmed, armedFor, armAfter, ticked, tickAnswer}
+use Rattle.counters.specs.Counters.{up, packetCounts, rejectedCounts, faultCounts}
+use Rattle.answers.specs.RowLaws.{not-fault}
 use Rattle.answers.specs.Own.{onRow, eventOf}
 use Rattle.answers.specs.OwnLaws.{row-range}
 use Rattle.answers.specs.Answers as steps
-use Rattle.effects.specs.FaultStates as events
-use Rattle.steps.specs.Step.{statesAfter, acted, acceptedStep, rejectedStep, packetStep, tickStep, faulted, faultStep}
-use Rattle.steps.specs.StepLaws.{packet-rejected, packet-accepted}
-use Rattle.steps.specs.Demand1.{refused-range}
+use Rattle.faultstates.specs.FaultStates as events
+use Rattle.steprules.specs.Step.{statesAfter, acted, acceptedStep, rejectedStep, packetStep, tickStep, faulted, faultStep}
+use Rattle.steprules.specs.StepLaws.{packet-rejected, packet-accepted}
+use Rattle.steprules.specs.Demand1.{refused-range}
 use Rattle.history.specs.Plain.{rowNamed, Event, packet, tick, fault, accepted, nearest, ticksSince, Row, rowOf, whenEnabled, whenCleared, whenFaulted, faultAnswer, faultReply, more, tables, rows, selects, isArm, timeout, lasts, armed, packetAnswer, done, stateOf, faultNamed, packetReply, reply}
 use Rattle.history.specs.Path.{step, replyOf}
 use Rattle.history.specs.Known.{left, knownCounts, known}

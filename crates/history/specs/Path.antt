@@ -3,14 +3,14 @@ use mathlib.Core.Bool.{cond}
 use mathlib.Core.List.{List, [], _∷_}
 use Prim.Native.Nat.{ℕ}
 use lib.Dec.{eqb}
-use Rattle.packet.specs.Layout.{commandId}
-use Rattle.packet.specs.Judge.{argumentsOf}
+use Rattle.packetrules.specs.Layout.{commandId}
+use Rattle.packetrules.specs.Judge.{argumentsOf}
 use Rattle.state.specs.declared.types.Run.{Run}
 use Rattle.state.specs.Tables.{Tables}
-use Rattle.effects.specs.FaultStates.{rowFor}
-use Rattle.effects.specs.Dispatch.{commandBytes}
-use Rattle.steps.specs.declared.types.Stepped.{Stepped}
-use Rattle.steps.specs.Step.{packetStep, tickStep, faultStep}
+use Rattle.faultstates.specs.FaultStates.{rowFor}
+use Rattle.dispatch.specs.Dispatch.{commandBytes}
+use Rattle.steprules.specs.declared.types.Stepped.{Stepped}
+use Rattle.steprules.specs.Step.{packetStep, tickStep, faultStep}
 use Rattle.history.specs.Plain.{Event, packet, tick, fault, Reply}
 
 -- one step

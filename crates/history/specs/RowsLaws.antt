@@ -11,7 +11,7 @@ use borrow.Author.Tests.{ne-eqb, eqb-true}
 use Rattle.state.specs.Tables.{FaultRow, faultId}
 use Rattle.state.specs.Rules.{member}
 use Rattle.state.specs.Keeps.{Rising}
-use Rattle.effects.specs.FaultStates.{clear, fault, nextState, rowAfter, actOn, clearAll, rowFor, stateFor}
+use Rattle.faultstates.specs.FaultStates.{clear, fault, nextState, rowAfter, actOn, clearAll, rowFor, stateFor}
 use Rattle.history.specs.Plain.{Row, faultAnswer, rowNamed, whenCleared, whenFaulted}
 
 abbrev pub plainRow : Row → FaultRow

@@ -4,7 +4,7 @@ use mathlib.Core.Bool.{Bool, true, false}
 use mathlib.Core.List.{List, [], _∷_}
 use Prim.Native.Nat.{ℕ, zero, suc, _+_, _%_}
 use native.Mathlib.Omega.{arith}
-use Rattle.packet.specs.Judge.{refusalOf}
+use Rattle.packetrules.specs.Judge.{refusalOf}
 use Rattle.state.specs.declared.types.Counts.{Counts}
 use Rattle.state.specs.Tables.{tablesOf}
 use Rattle.image.specs.Records.{Record, recordsOf}

@@ -11,9 +11,9 @@ use Rattle.state.specs.KeepsLaws.{Few}
 use Rattle.state.specs.ArrayLaws.{padded-take, padded-more, arrays-sized}
 use Rattle.image.specs.Records.{le16, Record}
 use Rattle.image.specs.Image.{startIn, tablesOfRecords, startsOfRecords}
-use Rattle.image.specs.RecordLaws.{plus-1, plus-2, plus-3, plus-4, starts-4, starts-same, starts-count}
-use Rattle.image.specs.Outcome.{GoodAfter}
-use Rattle.image.specs.OutcomeLaws.{room-2, room-3, room-4}
+use Rattle.records.specs.RecordLaws.{plus-1, plus-2, plus-3, plus-4, starts-4, starts-same, starts-count}
+use Rattle.records.specs.Outcome.{GoodAfter}
+use Rattle.records.specs.OutcomeLaws.{room-2, room-3, room-4}
 use Rattle.image.specs.Parts.{Slots, Holds}
 use Rattle.image.specs.Stored.{withBasics, withRoute, withProtected, withRow, stored-1, stored-2, stored-3, stored-4, few-1, few-2, few-3, few-4}
 

@@ -2,20 +2,18 @@
 -- place. Every load is one of these, and no other answer fits.
 use mathlib.Core.Path.{_≡_, refl, sym, ap, _∙_}
 use mathlib.Core.List.{List, [], _∷_, _++_, append-nil, append-assoc}
-use Prim.Native.Nat.{ℕ, suc}
-use native.Mathlib.Omega.{arith}
+use Prim.Native.Nat.{ℕ}
 use lib.Dec.{eqb}
 use lib.ListN.{length}
-use borrow.Author.Tests.{lt-leb, eq-eqb, ne-eqb, eqb-true, eqb-false}
+use borrow.Author.Tests.{eq-eqb, ne-eqb, eqb-true, eqb-false}
 use Rattle.state.specs.KeepsLaws.{split}
 use Rattle.image.specs.declared.types.Loaded.{Loaded}
 use Rattle.image.specs.Records.{Record, recordsOf}
 use Rattle.image.specs.Image.{recordRefusal, refused, loaded, loadAfter, loadOf}
-use Rattle.image.specs.Good.{InOrder, basics-first, Good}
-use Rattle.image.specs.Outcome.{Outcome, GoodAfter, AllGood}
-use Rattle.image.specs.OutcomeLaws.{outcome, outcome-only, good-zero, zero-good}
-use Rattle.image.specs.GoodLaws.{all-records, all-in-order, all-tables, all-start}
-use Rattle.image.specs.GoodEach.{each-good}
+use Rattle.goodimage.specs.Good.{Good}
+use Rattle.records.specs.Outcome.{Outcome, GoodAfter, AllGood}
+use Rattle.records.specs.OutcomeLaws.{outcome, outcome-only, good-zero, zero-good}
+use Rattle.goodimage.specs.GoodImage.{no-records, good-image, image-good, good-not-empty}
 use Rattle.image.specs.Places.{bytesOf, none, begins-behind}
 
 -- ---- declared
@@ -94,36 +92,6 @@ first-fails before (r ∷ good) bad rest n a e h =
     simp (good-zero before r (a .0)) (first-fails (before ++ r ∷ []) good bad rest n (a .1) (rw (append-assoc before (r ∷ []) good) e) h)
 
 -- ---- an image
-
--- bytes hold at least one record
-pub some-records : (bs : List ℕ) → (length bs ≡ 0 → ⊥) → recordsOf bs ≡ [] → ⊥
-some-records [] h e = h refl
-some-records (b ∷ bs) h e =
-    let q = simp (lt-leb (suc (length bs)) 0 (omega arith)) at e in
-    let z : _≡_ {A = ℕ} 0 1 = cc q in
-    omega arith
-
-no-records : (bs : List ℕ) → length bs ≡ 0 → recordsOf bs ≡ []
-no-records bs e = rw e
-
-good-image : (image : List ℕ) → (length image ≡ 0 → ⊥) → AllGood [] (recordsOf image) → Good image
-good-image image h a =
-    let some = some-records image h in
-    record {
-      records-good = all-records [] (recordsOf image) a;
-      in-order = all-in-order (recordsOf image) some a;
-      rules = all-tables (recordsOf image) some a;
-      starts-0-1 = all-start (recordsOf image) a;
-    }
-
-image-good : {image : List ℕ} → Good image → AllGood [] (recordsOf image)
-image-good {image} g = each-good (recordsOf image) (g .in-order) (g .records-good) (g .rules) (g .starts-0-1)
-
-pub good-not-empty : {image : List ℕ} → Good image → length image ≡ 0 → ⊥
-good-not-empty {image} g e = go (recordsOf image) (no-records image e) (g .in-order)
-  where
-    go : (rs : List Record) → rs ≡ [] → InOrder rs → ⊥
-    go rs e (basics-first r qs k a) = let z : _≡_ {A = ℕ} 0 1 = cc e in omega arith
 
 pub loading : (image : List ℕ) → Loading image (loadOf image)
 unfolding loadOf

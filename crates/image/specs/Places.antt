@@ -9,7 +9,7 @@ use lib.Dec.{leb}
 use lib.ListN.{length}
 use Rattle.state.specs.KeepsLaws.{split}
 use Rattle.image.specs.Records.{le16, Record, recordAt, andThen, recordsFrom, recordsOf}
-use Rattle.image.specs.Outcome.{AllGood}
+use Rattle.records.specs.Outcome.{AllGood}
 
 -- the bytes of records
 abbrev pub bytesOf : List Record → ℕ

@@ -11,8 +11,8 @@ use Rattle.state.specs.KeepsLaws.{Few}
 use Rattle.state.specs.ArrayLaws.{padded-more, short-args, args-more}
 use Rattle.image.specs.Records.{le16}
 use Rattle.image.specs.Image.{routeIn, rowIn}
-use Rattle.image.specs.GoodLaws.{each-snoc}
-use Rattle.image.specs.RecordLaws.{plusBasics, plusRoute, plusProtected, plusRow}
+use Rattle.goodimage.specs.GoodLaws.{each-snoc}
+use Rattle.records.specs.RecordLaws.{plusBasics, plusRoute, plusProtected, plusRow}
 
 -- ---- what the code does to the arrays
 

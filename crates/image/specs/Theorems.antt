@@ -9,15 +9,15 @@ use lib.ListN.{length}
 use Rattle.state.specs.declared.types.Config.{Config}
 use Rattle.state.specs.declared.types.Run.{Run}
 use Rattle.state.specs.Tables.{empty, configOf, freshRun, tablesOf}
-use Rattle.state.specs.Rules.{basicsOk}
-use Rattle.state.specs.Test.{rulesKept, counted, configKept, keepsRules}
+use Rattle.state.specs.Test.{keepsRules}
 use Rattle.state.specs.KeepsLaws.{kept}
 use Rattle.state.specs.ArrayLaws.{tables-back, rules-few, arrays-keep}
 use Rattle.image.specs.declared.types.Loaded.{Loaded}
 use Rattle.image.specs.Records.{recordsOf}
 use Rattle.image.specs.Image.{tablesOfRecords, startsOfRecords, refused, loaded, loadOf}
-use Rattle.image.specs.Good.{Good}
-use Rattle.image.specs.RecordLaws.{starts-count}
+use Rattle.goodimage.specs.Good.{Good}
+use Rattle.goodimage.specs.Zero.{zero-breaks}
+use Rattle.records.specs.RecordLaws.{starts-count}
 use Rattle.image.specs.Loading.{FirstBad, Loading, loads, nothing, stops, loading, only}
 
 -- ---- 0 exactly for a good image
@@ -89,10 +89,6 @@ refused-only image l r =
     go n place (of-record f) e = only (stops f e)
 
 -- ---- the all-zero state breaks its rules whatever its run, since its two sources are equal
-
-pub zero-breaks : (r : Run) → keepsRules (configOf empty) r ≡ false
-unfolding keepsRules configKept counted rulesKept basicsOk
-zero-breaks r = refl
 
 pub refused-breaks : (image : List ℕ) → (loadOf image .answer ≡ 0 → ⊥) → (r : Run) → keepsRules (loadOf image .config) r ≡ false
 refused-breaks image h r = rw (refused-load image h .config-zero) (zero-breaks r)

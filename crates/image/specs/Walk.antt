@@ -11,9 +11,9 @@ use Rattle.state.specs.declared.types.Config.{Config}
 use Rattle.state.specs.Tables.{empty, configOf}
 use Rattle.image.specs.Records.{Record, cut, recordAt, recordsFrom}
 use Rattle.image.specs.Image.{tablesOfRecords, lastKind, recordRefusal, refusalAfter, refused, loadAfter, loadOf}
-use Rattle.image.specs.RecordLaws.{Whole, bodyAt, whole-at, body-ends, one-from, none-from, last-snoc}
-use Rattle.image.specs.Outcome.{GoodAfter}
-use Rattle.image.specs.OutcomeLaws.{good-zero, zero-good}
+use Rattle.records.specs.RecordLaws.{Whole, bodyAt, whole-at, body-ends, one-from, none-from, last-snoc}
+use Rattle.records.specs.Outcome.{GoodAfter}
+use Rattle.records.specs.OutcomeLaws.{good-zero, zero-good}
 use Rattle.image.specs.Parts.{runWith}
 use Rattle.image.specs.Held.{Held, none-held}
 

@@ -6,8 +6,8 @@ ghost use Rattle.wire.specs.Put.{putAt};
 ghost use Rattle.state.specs.Tables.{empty, configOf};
 ghost use Rattle.image.specs.Image.{refused, loadOf};
 ghost use Rattle.image.specs.Parts.{runWith};
-use crate::record;
 use crate::types::Loaded;
+use records::record;
 use state::types::Arm;
 use state::types::Config;
 use state::types::Counts;
@@ -100,7 +100,7 @@ pub fn load(image: &[u8]) -> Loaded
         let n = config.nroutes;
         let m = config.nprotected;
         let k = config.nrows;
-        let refused = record::refusal(
+        let refused = recordcheck::refusal(
             last,
             kind,
             body,

@@ -6,7 +6,7 @@ use native.Mathlib.Omega.{arith}
 use lib.ListN.{length, take, drop, length-append, length-drop, drop-of-length-le}
 use lib.Seq.{take-all, take-at, drop-at, drop-drop, drop-append-add, length-take-le, take-append-le, take-take}
 use Rattle.wire.specs.Put.{putAt}
-use Rattle.effects.specs.Dispatch.{over}
+use Rattle.dispatch.specs.Dispatch.{over}
 
 -- a buffer whose part from place n on was lent and came back as `part`
 abbrev pub backAs : List ℕ → ℕ → List ℕ → List ℕ

@@ -7,17 +7,17 @@ use native.Mathlib.Omega.{arith}
 use lib.Dec.{eqb}
 use lib.ListN.{length}
 use borrow.Author.Tests.{ne-eqb, eqb-true, eqb-false}
-use Rattle.packet.specs.Layout.{commandId}
-use Rattle.packet.specs.Judge.{refusalOf, argumentsOf}
-use Rattle.packet.specs.Laws.{outcome}
+use Rattle.packetrules.specs.Layout.{commandId}
+use Rattle.packetrules.specs.Judge.{refusalOf, argumentsOf}
+use Rattle.packetrules.specs.Laws.{outcome}
 use Rattle.state.specs.declared.types.Run.{Run}
 use Rattle.state.specs.Tables.{Tables}
-use Rattle.effects.specs.Dispatch.{commandBytes, over, sent, for10}
-use Rattle.effects.specs.FaultStates.{rowFor}
+use Rattle.dispatch.specs.Dispatch.{commandBytes, over, sent, for10}
+use Rattle.faultstates.specs.FaultStates.{rowFor}
 use Rattle.answers.specs.Answers.{answerTo, faultAnswer}
-use Rattle.steps.specs.Step.{acceptedStep, rejectedStep, packetStep, packetOutput, tickStep, faultStep, faultOutput}
-use Rattle.steps.specs.StepLaws.{packet-rejected, packet-accepted}
-use Rattle.steps.specs.Demand1.{refused-range}
+use Rattle.steprules.specs.Step.{acceptedStep, rejectedStep, packetStep, packetOutput, tickStep, faultStep, faultOutput}
+use Rattle.steprules.specs.StepLaws.{packet-rejected, packet-accepted}
+use Rattle.steprules.specs.Demand1.{refused-range}
 use Rattle.history.specs.Plain.{Event, packet, tick, fault}
 use Rattle.history.specs.Path.{step, bytesFor}
 

@@ -5,8 +5,8 @@ use mathlib.Core.List.{List, [], _∷_, _++_}
 use Prim.Native.Nat.{ℕ, _+_, _-_, _/_, _%_}
 use lib.Dec.{eqb, leb}
 use lib.ListN.{length}
-use Rattle.image.specs.Records.{le16, Record}
-use Rattle.image.specs.Image.{check}
+use Rattle.records.specs.Records.{le16, Record}
+use Rattle.packetrules.specs.Judge.{check}
 use Rattle.history.specs.Plain.{Event, packet, tick, fault, Reply}
 
 -- ---- events: records in the same length and kind form as the image

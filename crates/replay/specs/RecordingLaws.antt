@@ -8,8 +8,8 @@ use lib.Dec.{eqb, leb, ltb, lit≤}
 use lib.ListN.{getD, take, drop, length-take, List·getD-eq-default}
 use lib.Seq.{getD-take, getD-drop}
 use borrow.Author.Tests.{eq-eqb, ne-eqb, eqb-true, eqb-false, leb-true, ltb-true, ltb-false}
-use Rattle.steps.specs.RulesKept.{Bytes}
-use Rattle.image.specs.Records.{le16, Record}
+use Rattle.steprules.specs.RulesKept.{Bytes}
+use Rattle.records.specs.Records.{le16, Record}
 use Rattle.history.specs.Plain.{packet, tick, fault}
 use Rattle.replay.specs.Recording.{eventIn, kindRefusal}
 

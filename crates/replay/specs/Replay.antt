@@ -9,7 +9,7 @@ use Rattle.state.specs.declared.types.Config.{Config}
 use Rattle.state.specs.declared.types.Run.{Run}
 use Rattle.state.specs.Tables.{Tables, tablesOf}
 use Rattle.state.specs.Test.{keepsRules}
-use Rattle.image.specs.Records.{Record, recordsOf}
+use Rattle.records.specs.Records.{Record, recordsOf}
 use Rattle.image.specs.Image.{loadOf}
 use Rattle.history.specs.Plain.{Event, Reply, replies, latestFirst}
 use Rattle.history.specs.Path.{run, after}
@@ -42,9 +42,13 @@ piece t s rs xs =
       wrote = length (flat xs);
     }
 
+-- where a replay stopped, and why
+abbrev pub stoppedAt : Run → ℕ → ℕ → ℕ → ℕ → Piece
+stoppedAt s n read count wrote = record { run = s; stop = n; read = read; count = count; wrote = wrote }
+
 -- nothing read, nothing answered, nothing written
 abbrev pub idle : Run → ℕ → Piece
-idle s n = record { run = s; stop = n; read = 0; count = 0; wrote = 0 }
+idle s n = stoppedAt s n 0 0 0
 
 -- 20 where the state breaks its rules
 unfoldable pub pieceOf : Config → Run → List ℕ → ℕ → Piece

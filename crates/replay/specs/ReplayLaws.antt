@@ -10,9 +10,9 @@ use Rattle.state.specs.declared.types.Config.{Config}
 use Rattle.state.specs.declared.types.Run.{Run}
 use Rattle.state.specs.Tables.{tablesOf}
 use Rattle.state.specs.Test.{keepsRules}
-use Rattle.effects.specs.Dispatch.{over}
+use Rattle.dispatch.specs.Dispatch.{over}
 use Rattle.image.specs.declared.types.Loaded.{Loaded}
-use Rattle.image.specs.Records.{Record, recordsOf}
+use Rattle.records.specs.Records.{Record, recordsOf}
 use Rattle.image.specs.Image.{loadOf}
 use Rattle.history.specs.Plain.{Reply, latestFirst}
 use Rattle.history.specs.Path.{after}

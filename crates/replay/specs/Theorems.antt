@@ -8,13 +8,14 @@ use native.Mathlib.Omega.{arith}
 use lib.Dec.{eqb, leb, lit≤}
 use lib.ListN.{length, take}
 use borrow.Author.Tests.{eq-eqb, le-leb}
-use Rattle.packet.specs.Judge.{refusalOf, argumentsOf}
-use Rattle.packet.specs.Parts.{arguments-few}
+use Rattle.packetrules.specs.Judge.{refusalOf, argumentsOf}
+use Rattle.packetrules.specs.Parts.{arguments-few}
 use Rattle.state.specs.declared.types.Run.{Run}
 use Rattle.state.specs.Tables.{Tables, routed}
 use Rattle.state.specs.Keeps.{Each, RowOk}
-use Rattle.image.specs.Records.{Record, recordsOf}
-use Rattle.image.specs.Image.{ofKind, rowIn, tablesOfRecords, loadOf}
+use Rattle.records.specs.Records.{Record, recordsOf}
+use Rattle.records.specs.Checks.{ofKind, rowIn, tablesOfRecords}
+use Rattle.image.specs.Image.{loadOf}
 use Rattle.image.specs.Theorems.{loads-good}
 use Rattle.history.specs.Plain.{Event, packet, tick, fault, Reply, bare, dispatched, rowOf, rowNamed, rows, accepted, packetAnswer, packetReply, faultAnswer, stateOf, reply, replies}
 use Rattle.history.specs.Path.{step, replyOf, run, after}

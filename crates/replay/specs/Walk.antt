@@ -13,11 +13,11 @@ use Rattle.state.specs.declared.types.Config.{Config}
 use Rattle.state.specs.declared.types.Run.{Run}
 use Rattle.state.specs.Tables.{Tables, tablesOf}
 use Rattle.state.specs.Keeps.{Keeps}
-use Rattle.effects.specs.Dispatch.{over}
+use Rattle.dispatch.specs.Dispatch.{over}
 use Rattle.wire.specs.Put.{putAt}
-use Rattle.image.specs.Records.{Record, cut, recordAt, recordsFrom, recordsOf}
-use Rattle.image.specs.RecordLaws.{Whole, bodyAt, whole-at, body-ends, one-from, none-from}
-use Rattle.steps.specs.declared.types.Stepped.{Stepped}
+use Rattle.records.specs.Records.{Record, cut, recordAt, recordsFrom, recordsOf}
+use Rattle.records.specs.RecordLaws.{Whole, bodyAt, whole-at, body-ends, one-from, none-from}
+use Rattle.steprules.specs.declared.types.Stepped.{Stepped}
 use Rattle.history.specs.Plain.{Event, Reply}
 use Rattle.history.specs.Path.{step, bytesFor, replyOf, after}
 use Rattle.history.specs.Calls.{EventBytes, step-keeps}

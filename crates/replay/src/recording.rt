@@ -1,5 +1,5 @@
 // The records of a recording, and the numbers of a reply in bytes.
-use steps::types::Answer;
+use steprules::types::Answer;
 use wire::word::high;
 use wire::word::low;
 ghost use mathlib.Core.Path.{_≡_};

@@ -9,10 +9,23 @@ ghost use mathlib.Core.Path.{_≡_};
 ghost use lib.ListN.{length};
 ghost use Rattle.state.specs.Tables.{tablesOf};
 ghost use Rattle.state.specs.Keeps.{Keeps};
-ghost use Rattle.effects.specs.Dispatch.{over};
-ghost use Rattle.image.specs.Records.{recordsOf};
+ghost use Rattle.dispatch.specs.Dispatch.{over};
+ghost use Rattle.records.specs.Records.{recordsOf};
 ghost use Rattle.replay.specs.Recording.{flat};
-ghost use Rattle.replay.specs.Replay.{piece, pathReplies, pieceOf, pieceBytes, replayOf, replayBytes};
+ghost use Rattle.replay.specs.Replay.{stoppedAt, piece, pathReplies, pieceOf, pieceBytes, replayOf, replayBytes};
+
+// What a replay that stops here came to.
+fn stopped(run: Run, stop: u8, read: usize, count: usize, wrote: usize) -> Piece
+    ensures { λ r. ⌜ r ≡ stoppedAt run stop read count wrote ⌝ }
+{
+    Piece {
+        run,
+        stop,
+        read,
+        count,
+        wrote,
+    }
+}
 
 // A recording behind a state that keeps its rules, event by event, until a record is bad or less than 266 bytes of the output
 // are left. Each arm ends with its own turn of the cursors, so that the arms never join.
@@ -27,41 +40,23 @@ pub fn inner_replay(config: Config, run: Run, recording: &[u8], out: &mut [u8]) 
     let mut count = 0;
     let mut wrote = 0;
     while read < recording.len() {
-        let end = image::record::end_of(recording, read);
+        let end = records::record::end_of(recording, read);
         if end == 0 {
-            return Piece {
-                run: left,
-                stop: 1,
-                read,
-                count,
-                wrote,
-            };
+            return stopped(left, 1, read, count, wrote);
         }
-        let kind = image::record::word_at(recording, read + 2);
+        let kind = records::record::word_at(recording, read + 2);
         let from = read + 4;
         let body = &recording[from..end];
         let refused = recording::refusal(kind, body.len());
         if refused != 0 {
-            return Piece {
-                run: left,
-                stop: refused,
-                read,
-                count,
-                wrote,
-            };
+            return stopped(left, refused, read, count, wrote);
         }
         if out.len() - wrote < 266 {
-            return Piece {
-                run: left,
-                stop: 21,
-                read,
-                count,
-                wrote,
-            };
+            return stopped(left, 21, read, count, wrote);
         }
         let place = wrote + 6;
         if kind == 16 {
-            let sent = steps::on_packet::inner_packet(config, left, body, &mut out[place..]);
+            let sent = packetstep::inner_packet(config, left, body, &mut out[place..]);
             wrote = recording::put_numbers(out, wrote, sent.answer);
             left = sent.run;
             count += 1;
@@ -73,21 +68,15 @@ pub fn inner_replay(config: Config, run: Run, recording: &[u8], out: &mut [u8]) 
             count += 1;
             read = end;
         } else {
-            let fault = image::record::word_at(body, 0);
-            let faulted = steps::on_fault::inner_fault(config, left, fault, &mut out[place..]);
+            let fault = records::record::word_at(body, 0);
+            let faulted = faultstep::inner_fault(config, left, fault, &mut out[place..]);
             wrote = recording::put_numbers(out, wrote, faulted.answer);
             left = faulted.run;
             count += 1;
             read = end;
         }
     }
-    Piece {
-        run: left,
-        stop: 0,
-        read,
-        count,
-        wrote,
-    }
+    stopped(left, 0, read, count, wrote)
 }
 
 // A piece of a recording behind any state: 20 where the state breaks its rules, which is judged once. A recording may come in
@@ -97,13 +86,7 @@ pub fn resume(config: Config, run: Run, recording: &[u8], out: &mut [u8]) -> Pie
     ensures output { λ r. ⌜ now (out .exit) ≡ over (pieceBytes config run (now (recording .entry)) (length (now (out .entry)))) (now (out .entry)) ⌝ }
 {
     if !statecheck::keeps_rules(config, run) {
-        return Piece {
-            run,
-            stop: 20,
-            read: 0,
-            count: 0,
-            wrote: 0,
-        };
+        return stopped(run, 20, 0, 0, 0);
     }
     inner_replay(config, run, recording, out)
 }

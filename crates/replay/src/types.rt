@@ -3,6 +3,7 @@ use state::types::Counts;
 use state::types::Run;
 
 // What a piece of a recording came to, and the run that it left.
+#[repr(C)]
 pub struct Piece {
     pub run: Run,
     // 0 all of it was read; 1, 2 or 3 the first bad record; 21 the output room
@@ -14,6 +15,7 @@ pub struct Piece {
 }
 
 // What a recording under an image came to.
+#[repr(C)]
 pub struct Replayed {
     // the load's answer and offset
     pub load: u8,

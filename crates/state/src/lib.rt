@@ -1,5 +1,3 @@
-// The state of the path: a Config, which no step changes, and a Run, which each step hands back; the rules of its rows, and
-// where a row stands.
-pub mod lookup;
+// The state of the path: a Config, which no step changes, and a Run, which each step hands back; the rules of its rows.
 pub mod rules;
 pub mod types;

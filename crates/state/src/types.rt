@@ -2,6 +2,7 @@
 // looks through fastest; rows that are not in use are zero.
 
 // The configuration: sources, own base, and the three tables with the counts of their rows in use.
+#[repr(C)]
 pub struct Config {
     pub ground: u16,
     pub fault: u16,
@@ -21,12 +22,14 @@ pub struct Config {
 }
 
 // The small arm record.
+#[repr(C)]
 pub struct Arm {
     pub armed: bool,
     pub ticks: u16,
 }
 
 // The seven counters, in the paper's order: accepted, rejected, dispatched, protected, unknown, invalid, faults.
+#[repr(C)]
 pub struct Counts {
     pub a: u16,
     pub r: u16,
@@ -38,6 +41,7 @@ pub struct Counts {
 }
 
 // What steps change. A fault state is 0 disabled, 1 enabled, 2 latched.
+#[repr(C)]
 pub struct Run {
     pub arm: Arm,
     pub counts: Counts,

@@ -13,9 +13,9 @@ use Rattle.state.specs.Sized.{Sized, SizedRun, Within}
 use Rattle.state.specs.Rules.{basicsOk}
 use Rattle.state.specs.Keeps.{Rising}
 use Rattle.state.specs.Test.{risingAll, rowPasses, clear, routesKept, rowsKept, rulesKept, counted, unusedClear, configKept, statesOk, runKept, keepsRules}
-use Rattle.statecheck.specs.Parts.{bare, routesPart, rowsPart, argsPart, runPart}
+use Rattle.tablecheck.specs.Parts.{bare, routesPart, rowsPart, argsPart, runPart}
 use Rattle.state.specs.KeepsLaws.{rising-keeps, route-keeps, counts-keeps}
-use Rattle.statecheck.specs.Walks.{routed-is}
+use Rattle.arraycheck.specs.Walks.{routed-is}
 
 -- routes that pass rise
 pub routes-rise : (base : ℕ) (ids dests : List ℕ) (n : ℕ) → n ≤ length ids → routesKept base (listed (routeAt ids dests) 0 n) ≡ true → Rising 0 (take n ids)

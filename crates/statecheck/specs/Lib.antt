@@ -1,4 +1,1 @@
-pub mod Walks
-pub mod Merge
-pub mod Parts
 pub mod JudgeLaws

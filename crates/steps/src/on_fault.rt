@@ -1,76 +1,13 @@
-// The fault step.
-use crate::types::Answer;
-use crate::types::Stepped;
-use effects::counts;
-use effects::faults;
+// The fault step. `inner_fault` is the step of a state that keeps its rules.
+pub use faultstep::inner_fault;
 use state::types::Config;
 use state::types::Run;
+use steprules::types;
+use steprules::types::Stepped;
 ghost use mathlib.Core.Path.{_≡_};
-ghost use Prim.Native.Nat.{_+_, _*_, _≤_, _<_};
-ghost use lib.ListN.{length, take, drop};
+ghost use lib.ListN.{length};
 ghost use Rattle.state.specs.Tables.{tablesOf};
-ghost use Rattle.state.specs.Keeps.{Keeps};
-ghost use Rattle.effects.specs.Dispatch.{commandBytes, over};
-ghost use Rattle.steps.specs.Step.{faultStep, faultOutput, faultStepOf};
-ghost use Rattle.steps.specs.FaultStepLaws.{silentStep};
-
-// A fault that sends nothing on, 34 or 13: F alone moves.
-fn silent(run: Run, n: u8) -> Stepped
-    ensures { λ r. ⌜ r ≡ silentStep run n ⌝ }
-{
-    let next = counts::after_fault(run.counts, n);
-    let mut left = run;
-    left.counts = next;
-    Stepped {
-        run: left,
-        answer: crate::types::bare(n),
-    }
-}
-
-// Writes the command of row k, whose `count` argument bytes stand from place 16 k on.
-fn respond(out: &mut [u8], source: u16, id: u16, args: &[u8], k: usize, count: u8) -> u16
-    requires { ⌜ (260 ≤ length (now out)) × (k < 32) × (k * 16 + count ≤ length (now args)) ⌝ }
-    ensures { λ r. ⌜ (r ≡ 5 + length (take count (drop (k * 16) (now (args .entry))))) × (now (out .exit) ≡ over (commandBytes source id (take count (drop (k * 16) (now (args .entry))))) (now (out .entry))) ⌝ }
-{
-    let from = k * 16;
-    let end = from + count as usize;
-    effects::dispatch::write(out, source, id, &args[from..end])
-}
-
-// The step of a state that keeps its rules, with room: the response goes straight to the router, even for a protected id.
-// internal: for `step_fault`, and for a loop that judges its state once.
-pub fn inner_fault(config: Config, run: Run, fault: u16, out: &mut [u8]) -> Stepped
-    requires { ⌜ Keeps config run × (260 ≤ length (now out)) ⌝ }
-    ensures step { λ r. ⌜ r ≡ faultStep (tablesOf config) run fault ⌝ }
-    ensures output { λ r. ⌜ now (out .exit) ≡ faultOutput (tablesOf config) (r .answer .answer) fault (now (out .entry)) ⌝ }
-{
-    let rows = config.nrows;
-    let k = state::lookup::place(&config.faultids, rows, fault);
-    if k >= rows {
-        return silent(run, 34);
-    }
-    let s = run.states[k];
-    if s != 1 {
-        return silent(run, 13);
-    }
-    let id = config.responses[k];
-    let count = config.argcounts[k];
-    let latching = config.latching[k];
-    let d = answers::decide::route(&config.routeids, &config.dests, config.nroutes, id);
-    let written = respond(out, config.fault, id, &config.args, k, count);
-    let mut left = run;
-    left.states[k] = faults::row_after(latching, s, 3);
-    left.counts = counts::after_fault(run.counts, 10);
-    Stepped {
-        run: left,
-        answer: Answer {
-            answer: 10,
-            id: id,
-            dest: d.dest,
-            written: written,
-        },
-    }
-}
+ghost use Rattle.steprules.specs.Step.{faultOutput, faultStepOf};
 
 // The step of any state, any fault number and any output: 20, 21, then the fault.
 pub fn step_fault(config: Config, run: Run, fault: u16, out: &mut [u8]) -> Stepped
@@ -78,10 +15,10 @@ pub fn step_fault(config: Config, run: Run, fault: u16, out: &mut [u8]) -> Stepp
     ensures output { λ r. ⌜ now (out .exit) ≡ faultOutput (tablesOf config) (r .answer .answer) fault (now (out .entry)) ⌝ }
 {
     if !statecheck::keeps_rules(config, run) {
-        return crate::types::refused(run, 20);
+        return types::refused(run, 20);
     }
     if out.len() < 260 {
-        return crate::types::refused(run, 21);
+        return types::refused(run, 21);
     }
     inner_fault(config, run, fault, out)
 }

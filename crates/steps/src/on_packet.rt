@@ -1,111 +1,13 @@
-// The packet step.
-use crate::types::Answer;
-use crate::types::Stepped;
-use answers::own;
-use effects::arm;
-use effects::counts;
-use effects::faults;
+// The packet step. `inner_packet` is the step of a state that keeps its rules.
+pub use packetstep::inner_packet;
 use state::types::Config;
 use state::types::Run;
+use steprules::types;
+use steprules::types::Stepped;
 ghost use mathlib.Core.Path.{_≡_};
-ghost use Prim.Native.Nat.{ℕ, _≤_};
-ghost use lib.ListN.{length, getD, take};
+ghost use lib.ListN.{length};
 ghost use Rattle.state.specs.Tables.{tablesOf};
-ghost use Rattle.state.specs.Lookup.{Column};
-ghost use Rattle.state.specs.Keeps.{Keeps};
-ghost use Rattle.steps.specs.Step.{rejectedStep, packetStep, packetOutput, packetStepOf};
-ghost use Rattle.steps.specs.StateLaws.{statesOn};
-
-// A rejected packet: R, and nothing else.
-fn rejected(run: Run, n: u8) -> Stepped
-    ensures { λ r. ⌜ r ≡ rejectedStep run n ⌝ }
-{
-    let next = counts::after_rejected(run.counts);
-    let mut left = run;
-    left.counts = next;
-    Stepped {
-        run: left,
-        answer: crate::types::bare(n),
-    }
-}
-
-// The fault states after an accepted packet with the answer n and the own number k.
-fn states_after(
-    states: [u8; 32],
-    n: u8,
-    k: u8,
-    args: &[u8],
-    ids: &[u16; 32],
-    rows: usize,
-) -> [u8; 32]
-    requires { ⌜ Column 32 (now ids) rows × ((j : ℕ) → getD states j 0 ≤ 2) ⌝ }
-    ensures { λ r. ⌜ r ≡ statesOn (take rows (now (ids .entry))) n k (now (args .entry)) states ⌝ }
-{
-    if n != 12 {
-        return states;
-    }
-    let c = own::selected(k);
-    if c.row {
-        let at = state::lookup::place(ids, rows, own::fault_arg(args));
-        if at >= rows {
-            return states;
-        }
-        let mut out = states;
-        out[at] = faults::next(states[at], k - 4);
-        return out;
-    }
-    if k == 7 {
-        return faults::clear_all(states);
-    }
-    states
-}
-
-// The step of a state that keeps its rules, with room. The arguments are handed on as the part of the packet from byte 10.
-// internal: for `step_packet`, and for a loop that judges its state once.
-pub fn inner_packet(config: Config, run: Run, packet: &[u8], out: &mut [u8]) -> Stepped
-    requires { ⌜ Keeps config run × (260 ≤ length (now out)) ⌝ }
-    ensures step { λ r. ⌜ r ≡ packetStep (tablesOf config) run (now (packet .entry)) ⌝ }
-    ensures output { λ r. ⌜ now (out .exit) ≡ packetOutput (tablesOf config) (r .answer .answer) (now (packet .entry)) (now (out .entry)) ⌝ }
-{
-    let refusal = packet::judge::refusal(packet);
-    if refusal != 0 {
-        return rejected(run, refusal);
-    }
-    let id = packet::judge::command_id(packet);
-    let args = packet::enquiry::accepted_part(packet);
-    let k = own::number(config.base, id);
-    let d = answers::decide::decide(
-        &config.protected,
-        config.nprotected,
-        &config.faultids,
-        config.nrows,
-        &config.routeids,
-        &config.dests,
-        config.nroutes,
-        run.arm.armed,
-        id,
-        k,
-        args,
-    );
-    let n = d.answer;
-    let old = run.states;
-    let states = states_after(old, n, k, args, &config.faultids, config.nrows);
-    let written = effects::dispatch::send(out, n, config.ground, id, args);
-    let next = Run {
-        arm: arm::after_packet(n, args),
-        counts: counts::after_packet(run.counts, n, k),
-        states: states,
-    };
-    Stepped {
-        run: next,
-        answer: Answer {
-            answer: n,
-            id: id,
-            dest: d.dest,
-            written: written,
-        },
-    }
-}
+ghost use Rattle.steprules.specs.Step.{packetOutput, packetStepOf};
 
 // The step of any state, any packet and any output: 20, 21, then the packet.
 pub fn step_packet(config: Config, run: Run, packet: &[u8], out: &mut [u8]) -> Stepped
@@ -113,10 +15,10 @@ pub fn step_packet(config: Config, run: Run, packet: &[u8], out: &mut [u8]) -> S
     ensures output { λ r. ⌜ now (out .exit) ≡ packetOutput (tablesOf config) (r .answer .answer) (now (packet .entry)) (now (out .entry)) ⌝ }
 {
     if !statecheck::keeps_rules(config, run) {
-        return crate::types::refused(run, 20);
+        return types::refused(run, 20);
     }
     if out.len() < 260 {
-        return crate::types::refused(run, 21);
+        return types::refused(run, 21);
     }
     inner_packet(config, run, packet, out)
 }

@@ -1,23 +1,23 @@
 // The tick step.
-use crate::types::Stepped;
-use effects::arm;
 use state::types::Config;
 use state::types::Run;
+use steprules::types;
+use steprules::types::Stepped;
 ghost use mathlib.Core.Path.{_≡_};
-ghost use Rattle.steps.specs.Step.{tickStep, tickStepOf};
+ghost use Rattle.steprules.specs.Step.{tickStep, tickStepOf};
 
 // A tick on a run: only the arm record may change.
 pub fn inner_tick(run: Run) -> Stepped
     ensures { λ r. ⌜ r ≡ tickStep run ⌝ }
 {
     let old = run.arm;
-    let n = arm::tick_answer(old);
-    let next = arm::after_tick(old);
+    let n = arming::tick_answer(old);
+    let next = arming::after_tick(old);
     let mut left = run;
     left.arm = next;
     Stepped {
         run: left,
-        answer: crate::types::bare(n),
+        answer: types::bare(n),
     }
 }
 
@@ -26,7 +26,7 @@ pub fn step_tick(config: Config, run: Run) -> Stepped
     ensures { λ r. ⌜ r ≡ tickStepOf config run ⌝ }
 {
     if !statecheck::keeps_rules(config, run) {
-        return crate::types::refused(run, 20);
+        return types::refused(run, 20);
     }
     inner_tick(run)
 }

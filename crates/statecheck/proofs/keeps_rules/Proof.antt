@@ -1,7 +1,7 @@
 -- `keeps_rules`: the parts of the test, asked one after the other.
 use borrow.Author.Needs.{needs}
 use Rattle.state.specs.Sized.{Sized, SizedRun, Within}
-use Rattle.statecheck.specs.Walks.{refuted, held}
+use Rattle.arraycheck.specs.Walks.{refuted, held}
 use Rattle.statecheck.specs.JudgeLaws.{counts-within, miscounted, judged}
 use Rattle.statecheck.proofs.keeps_rules.Statement.{statement}
 use Rattle.statecheck.proofs.keeps_rules.Tie as tie

@@ -1,7 +1,7 @@
 -- `routes_judged`: the walks over routes and protected ids, and zero behind them.
 use native.Mathlib.Omega.{arith}
 use borrow.Author.Needs.{needs}
-use Rattle.statecheck.specs.Walks.{refuted, held}
+use Rattle.arraycheck.specs.Walks.{refuted, held}
 use Rattle.statecheck.specs.JudgeLaws.{routes-rise}
 use Rattle.statecheck.proofs.routes_judged.Statement.{statement}
 use Rattle.statecheck.proofs.routes_judged.Tie as tie

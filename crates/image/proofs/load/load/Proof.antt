@@ -6,8 +6,8 @@ use native.Mathlib.Omega.{arith}
 use lib.ListN.{length, getD, take, drop, length-take}
 use Rattle.state.specs.declared.types.Config.{Config}
 use Rattle.image.specs.Image.{tablesOfRecords, refusalAfter}
-use Rattle.image.specs.RecordLaws.{Whole, bodyAt}
-use Rattle.image.specs.Outcome.{GoodAfter}
+use Rattle.records.specs.RecordLaws.{Whole, bodyAt}
+use Rattle.records.specs.Outcome.{GoodAfter}
 use Rattle.image.specs.Loading.{nothing, only}
 use Rattle.image.specs.Held.{Held, columns, holds, args-long, six, three, two, fourth, seven, held-1, held-2, held-3, held-4}
 use Rattle.image.specs.Walk.{Walked, start, ends, cuts, found, refuses, not-refused, goes-on}

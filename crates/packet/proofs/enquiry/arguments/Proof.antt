@@ -1,8 +1,8 @@
 -- `arguments`: the empty part at the start of a refused packet, else the accepted packet's part.
 use mathlib.Core.Path.{_≡_, refl, sym}
 use native.Mathlib.Omega.{arith}
-use Rattle.packet.specs.Judge.{refusalOf}
-use Rattle.packet.specs.Laws.{accepts, arguments-refused, at-refused, at-accepted}
+use Rattle.packetrules.specs.Judge.{refusalOf}
+use Rattle.packetrules.specs.Laws.{accepts, arguments-refused, at-refused, at-accepted}
 use borrow.Author.Needs.{needs}
 use Rattle.packet.proofs.enquiry.arguments.Statement.{statement}
 use Rattle.packet.proofs.enquiry.arguments.Tie as tie

@@ -1,6 +1,6 @@
 -- `judge`: a refusal with zeros, or the id and the count of an accepted packet.
 use native.Mathlib.Omega.{arith}
-use Rattle.packet.specs.Laws.{accepts, judge-refused, judge-accepted}
+use Rattle.packetrules.specs.Laws.{accepts, judge-refused, judge-accepted}
 use borrow.Author.Needs.{needs}
 use Rattle.packet.proofs.judge.judge.Statement.{statement}
 use Rattle.packet.proofs.judge.judge.Tie as tie

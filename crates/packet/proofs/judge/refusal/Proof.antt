@@ -1,8 +1,8 @@
 -- `refusal`: each return is one line of `Outcome`; the form's checks count as `form_refusal` found them.
 use mathlib.Core.Path.{_∙_}
 use native.Mathlib.Omega.{arith}
-use Rattle.packet.specs.Outcome.{below-6, not-whole, no-room, too-many, taken}
-use Rattle.packet.specs.Laws.{only, formed, form-counts}
+use Rattle.packetrules.specs.Outcome.{below-6, not-whole, no-room, too-many, taken}
+use Rattle.packetrules.specs.Laws.{only, formed, form-counts}
 use borrow.Author.Needs.{needs}
 use Rattle.packet.proofs.judge.refusal.Statement.{statement}
 use Rattle.packet.proofs.judge.refusal.Tie as tie

@@ -6,7 +6,7 @@ use Prim.Native.Nat.{ℕ, _+_, _-_, _<_, _≤_}
 use native.Mathlib.Omega.{arith}
 use lib.ListN.{length, take, drop, length-drop}
 use borrow.Author.Tests.{eq-eqb, ne-eqb}
-use Rattle.image.specs.RecordLaws.{Whole, bodyAt}
+use Rattle.records.specs.RecordLaws.{Whole, bodyAt}
 use Rattle.history.specs.Plain.{packet, tick, fault}
 use Rattle.replay.specs.RecordingLaws.{fault-sized, packet-event, tick-event, fault-event, part-bytes}
 use Rattle.replay.specs.PathLaws.{packet-over, fault-over}
@@ -80,26 +80,33 @@ module _ (c : tie.Else5 Inv-loop μ-loop) where
 loop-holds : tie.Need-loop-holds Inv-loop μ-loop
 loop-holds c = start (c .before .before .pre) _ _
 
+-- the piece where it stops
 returns : tie.Need-returns Inv-loop μ-loop
 returns c =
-    let h = c .before .before .before in
-    let r = cuts (h .loop .inv) (c .before .before .loop-test .taken) (c .before .end-of .ensures .is-cut (c .if1 .taken)) in
-    (r .told, r .output)
+    let t = c .before in
+    let h = t .before .before .before in
+    let r = cuts (h .loop .inv) (t .before .before .loop-test .taken) (t .before .end-of .ensures .is-cut (t .if1 .taken)) in
+    (c .stopped .ensures ∙ r .told, r .output)
 
 returns-2 : tie.Need-returns-2 Inv-loop μ-loop
 returns-2 c =
-    let d = c .before .before .before in
-    let r = refuses (g d) (inside d) (whole d) (c .before .refusal .ensures) (c .if2 .taken) in
-    (r .told, r .output)
+    let t = c .before in
+    let d = t .before .before .before in
+    let r = refuses (g d) (inside d) (whole d) (t .before .refusal .ensures) (t .if2 .taken) in
+    (c .stopped2 .ensures ∙ r .told, r .output)
 
 returns-3 : tie.Need-returns-3 Inv-loop μ-loop
 returns-3 c =
-    let d = c .before .before .before .before in
-    let r = cramped (g d) (inside d) (whole d) (c .before .before .refusal .ensures) (c .before .if2 .left) (omega (arith, same (g d), c .if3 .taken)) in
-    (r .told, r .output)
+    let t = c .before in
+    let d = t .before .before .before .before in
+    let r = cramped (g d) (inside d) (whole d) (t .before .before .refusal .ensures) (t .before .if2 .left) (omega (arith, same (g d), t .if3 .taken)) in
+    (c .stopped3 .ensures ∙ r .told, r .output)
 
 returns-4 : tie.Need-returns-4 Inv-loop μ-loop
-returns-4 c = let r = ends (c .before .loop .inv) (c .loop-test .left) in (r .told, r .output)
+returns-4 c =
+    let t = c .before in
+    let r = ends (t .before .loop .inv) (t .loop-test .left) in
+    (c .stopped4 .ensures ∙ r .told, r .output)
 
 loop-again : tie.Need-loop-again Inv-loop μ-loop
 loop-again c =
@@ -142,7 +149,8 @@ inner-replay-spec =
     μ-loop
     loop-holds
     (λ c κs. c .before .loop .inv .inside)
-    (λ c. same (c .before .before .before .loop .inv))
+    (λ c κs. tt)
+    (λ c. same (c .before .before .before .before .loop .inv))
     returns
     (λ c. omega (arith, c .before .end-of .ensures .is-whole (c .if1 .left)))
     (λ c κs. omega (arith, c .before .end-of .ensures .is-whole (c .if1 .left)))
@@ -151,10 +159,12 @@ inner-replay-spec =
     (λ c. omega (arith, whole c .end-is, whole c .inside))
     (λ c. omega (arith, whole c .end-is, whole c .inside))
     (λ c κs. tt)
-    (λ c. same (g (c .before .before .before)))
+    (λ c κs. tt)
+    (λ c. same (g (c .before .before .before .before)))
     returns-2
     (λ c. let e = c .before .before .before in omega (arith, g e .fits, same (g e)))
-    (λ c. same (g (c .before .before .before .before)))
+    (λ c κs. tt)
+    (λ c. same (g (c .before .before .before .before .before)))
     returns-3
     (λ c. omega (arith, fits c))
     (λ c. omega (arith, fits (c .before)))
@@ -179,5 +189,6 @@ inner-replay-spec =
     (λ c. let e = d (c .before .before .before .before .before .before .before .before .before .before .before .before) in omega (arith, g e .few, inside e))
     (λ c. shorter (d (c .before .before .before .before .before .before .before .before .before .before .before .before)))
     loop-again-3
-    (λ c. same (c .before .loop .inv))
+    (λ c κs. tt)
+    (λ c. same (c .before .before .loop .inv))
     returns-4)

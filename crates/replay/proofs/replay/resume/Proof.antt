@@ -17,7 +17,10 @@ resume-spec =
     tie.close
     (tie.spec
     (λ c κs. tt)
-    (λ c. breaks _ _ _ _ (sym (c .before .keeps-rules .ensures) ∙ not-true (c .before .keeps-rules .result) (c .if1 .taken)))
+    (λ c κs. tt)
+    (λ c. let t = c .before in
+    let r = breaks _ _ _ _ (sym (t .before .keeps-rules .ensures) ∙ not-true (t .before .keeps-rules .result) (t .if1 .taken)) in
+    (c .stopped .ensures ∙ r .0, r .1))
     (λ c κs. state.keeps _ _ (kept (c .before)))
     (λ c. search needs)
     (λ c. let p = c .before .before in keeps _ _ _ (p .before .before .before .before .before .before .args .out .now) (kept (p .before .before)) (p .inner-replay .ensures .0) (p .inner-replay .ensures .1)))

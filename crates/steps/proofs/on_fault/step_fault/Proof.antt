@@ -1,8 +1,8 @@
 -- `step_fault`: a state that breaks its rules, too little room, or the inner step.
-use Rattle.steps.specs.FaultStepLaws.{fault-unsent}
-use Rattle.steps.specs.StepLaws.{fault-20, fault-21, fault-on}
+use Rattle.steprules.specs.FaultStepLaws.{fault-unsent}
+use Rattle.steprules.specs.StepLaws.{fault-20, fault-21, fault-on}
 use Rattle.state.specs.KeepsLaws.{keeps}
-use Rattle.steps.specs.declared.types.Stepped.{Stepped}
+use Rattle.steprules.specs.declared.types.Stepped.{Stepped}
 use borrow.Author.Tests.{not-true, not-false}
 use mathlib.Core.Path.{refl, sym, ap, _∙_}
 use borrow.Author.Needs.{needs}

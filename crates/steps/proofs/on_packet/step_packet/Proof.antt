@@ -1,7 +1,7 @@
 -- `step_packet`: a state that breaks its rules, too little room, or the inner step.
-use Rattle.steps.specs.StepLaws.{packet-20, packet-21, packet-on, packet-unsent}
+use Rattle.steprules.specs.StepLaws.{packet-20, packet-21, packet-on, packet-unsent}
 use Rattle.state.specs.KeepsLaws.{keeps}
-use Rattle.steps.specs.declared.types.Stepped.{Stepped}
+use Rattle.steprules.specs.declared.types.Stepped.{Stepped}
 use borrow.Author.Tests.{not-true, not-false}
 use mathlib.Core.Path.{refl, sym, ap, _∙_}
 use borrow.Author.Needs.{needs}

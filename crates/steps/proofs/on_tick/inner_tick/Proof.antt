@@ -1,5 +1,5 @@
 -- `inner_tick`: the arm record after the tick, and its answer.
-use Rattle.steps.specs.Step.{tickStep}
+use Rattle.steprules.specs.Step.{tickStep}
 use borrow.Author.Needs.{needs}
 use Rattle.steps.proofs.on_tick.inner_tick.Statement.{statement}
 use Rattle.steps.proofs.on_tick.inner_tick.Tie as tie

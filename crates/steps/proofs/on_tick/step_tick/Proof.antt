@@ -1,5 +1,5 @@
 -- `step_tick`: a state that breaks its rules, or the inner step.
-use Rattle.steps.specs.StepLaws.{tick-20, tick-on}
+use Rattle.steprules.specs.StepLaws.{tick-20, tick-on}
 use borrow.Author.Tests.{not-true, not-false}
 use mathlib.Core.Path.{sym, _∙_}
 use borrow.Author.Needs.{needs}

@@ -1,0 +1,2 @@
+pub mod Arming
+pub mod ArmingLaws

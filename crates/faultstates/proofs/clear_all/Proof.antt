@@ -1,0 +1,32 @@
+-- `clear_all`: after k turns the first k states are cleared.
+use Prim.Native.Nat.{_-_}
+use mathlib.Core.Path.{_≡_}
+use native.Mathlib.Omega.{arith}
+use lib.ListN.{length}
+use borrow.Author.Needs.{needs}
+use Rattle.faultstates.specs.FaultLaws.{Cleared, clear-start, clear-next, clear-done}
+use Rattle.faultstates.proofs.clear_all.Statement.{statement}
+use Rattle.faultstates.proofs.clear_all.Tie as tie
+
+abbrev Inv-loop : tie.InvT-loop
+Inv-loop states out₀ k₀ out k = Cleared states out k × (length states ≡ 32)
+
+abbrev μ-loop : tie.MeasureT-loop
+μ-loop states out₀ k₀ out k = 32 - k
+
+pub clear-all-spec : {M : Type 1} → statement M
+clear-all-spec =
+    tie.close
+    (tie.spec
+    Inv-loop
+    μ-loop
+    (λ c. (clear-start _, search needs))
+    (λ c. search needs)
+    (λ c κs. omega (arith, c .before .before .pre (c .before .loop .k)))
+    (λ c. search needs)
+    (λ c. omega arith)
+    (λ c. omega arith)
+    (λ c. let i = c .before .before .loop .inv in
+    (clear-next (i .0) _ (omega arith) (c .next .ensures), i .1))
+    (λ c. let i = c .before .loop .inv in
+    clear-done (i .0) (omega arith)))

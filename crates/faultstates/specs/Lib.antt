@@ -1,0 +1,2 @@
+pub mod FaultStates
+pub mod FaultLaws

@@ -1,0 +1,46 @@
+// The response states of fault rows.
+ghost use mathlib.Core.Path.{_≡_};
+ghost use Prim.Native.Nat.{ℕ, _≤_, _<_};
+ghost use lib.ListN.{getD};
+ghost use Rattle.faultstates.specs.FaultStates.{nextState, rowAfter, clearAll};
+
+// The next state of a latching row, by state (disabled, enabled, latched) and event (enable, disable, clear, fault).
+const NEXT: [[u8; 4]; 3] = [[1, 0, 0, 0], [1, 0, 1, 2], [2, 0, 1, 2]];
+
+// internal: a state and an event of the table, which the rules of a state ensure.
+pub fn next(s: u8, e: u8) -> u8
+    requires { ⌜ (s < 3) × (e < 4) ⌝ }
+    ensures { λ r. ⌜ r ≡ nextState s e ⌝ }
+{
+    NEXT[s as usize][e as usize]
+}
+
+// The state of a row after an event: one that doesn't latch stays as it is at a fault.
+// internal: as `next`.
+pub fn row_after(latching: u8, s: u8, e: u8) -> u8
+    requires { ⌜ (s < 3) × (e < 4) ⌝ }
+    ensures { λ r. ⌜ r ≡ rowAfter latching s e ⌝ }
+{
+    if e != 3 {
+        return next(s, e);
+    }
+    if latching == 0 {
+        return s;
+    }
+    next(s, e)
+}
+
+// Each fault state cleared.
+// internal: as `next`.
+pub fn clear_all(states: [u8; 32]) -> [u8; 32]
+    requires { ⌜ ((k : ℕ) → getD states k 0 ≤ 2) ⌝ }
+    ensures { λ r. ⌜ r ≡ clearAll states ⌝ }
+{
+    let mut out = states;
+    let mut k = 0;
+    while k < 32 {
+        out[k] = next(states[k], 2);
+        k += 1;
+    }
+    out
+}

@@ -1,0 +1,27 @@
+-- `respond`: the row's part of the argument bytes is handed to the writer.
+use native.Mathlib.Omega.{arith}
+use Prim.Native.Nat.{ℕ, _+_, _*_, _-_}
+use mathlib.Core.Path.{_≡_, ap, _∙_}
+use lib.ListN.{take, drop}
+use Rattle.dispatch.specs.Dispatch.{commandBytes, over}
+use borrow.Author.Needs.{needs}
+use Rattle.faultstep.proofs.respond.Statement.{statement}
+use Rattle.faultstep.proofs.respond.Tie as tie
+
+pub respond-spec : {M : Type 1} → statement M
+respond-spec =
+    tie.close
+    (tie.spec
+    (λ c. search needs)
+    (λ c. search needs)
+    (λ c. search needs)
+    (λ c. search needs)
+    (λ c. search needs)
+    (λ c κs. search needs)
+    (λ c. search needs)
+    (λ c. let g = c .before .before .before .before .before .before .before .args in
+    let e : g .k * 16 + g .count - g .k * 16 ≡ g .count = omega arith in
+    let w = c .before .before .write .ensures in (
+      rw e at (w .0),
+      w .1 ∙ ap (λ (n : ℕ). over (commandBytes (g .source) (g .id) (take n (drop (g .k * 16) (g .args .now)))) (g .out .now)) e,
+    )))

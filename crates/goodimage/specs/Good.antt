@@ -1,0 +1,31 @@
+-- A good image, declared as document 01 says it: whole records of known kinds and right sizes, exactly one kind 1, first, kinds
+-- that never fall, and tables and start states that keep their rules.
+use mathlib.Core.Path.{_≡_}
+use mathlib.Core.Bool.{true}
+use mathlib.Core.List.{List, [], _∷_}
+use Prim.Native.Nat.{ℕ, _≤_}
+use Rattle.state.specs.Keeps.{Each, Rules}
+use Rattle.records.specs.Records.{Record, recordsOf}
+use Rattle.records.specs.Checks.{tablesOfRecords, startsOfRecords}
+use Rattle.records.specs.Outcome.{BodyFits}
+
+pub record GoodRecord (r : Record) : Type 0 where
+  pub whole : r .whole ≡ true
+  pub kind-low : 1 ≤ r .kind
+  pub kind-high : r .kind ≤ 4
+  pub fits : BodyFits (r .kind) (r .body)
+
+-- kinds never fall, and none is below low
+abbrev pub Ascending : ℕ → List Record → Type 0
+Ascending low [] = Unit {0}
+Ascending low (r ∷ rs) = (low ≤ r .kind) × Ascending (r .kind) rs
+
+-- exactly one kind 1, first
+pub data InOrder : List Record → Type 0 where
+  basics-first : (r : Record) (rs : List Record) → r .kind ≡ 1 → Ascending 2 rs → InOrder (r ∷ rs)
+
+pub record Good (image : List ℕ) : Type 0 where
+  pub records-good : Each GoodRecord (recordsOf image)
+  pub in-order : InOrder (recordsOf image)
+  pub rules : Rules (tablesOfRecords (recordsOf image))
+  pub starts-0-1 : Each (λ s. s ≤ 1) (startsOfRecords (recordsOf image))

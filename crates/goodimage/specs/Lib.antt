@@ -1,0 +1,5 @@
+pub mod Good
+pub mod GoodLaws
+pub mod GoodEach
+pub mod GoodImage
+pub mod Zero

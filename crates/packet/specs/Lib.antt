@@ -1,6 +1,0 @@
-pub mod Layout
-pub mod Header
-pub mod Judge
-pub mod Outcome
-pub mod Laws
-pub mod Parts

@@ -1,0 +1,35 @@
+// The parts of a packet that the judge has accepted: its command id, its argument count and its argument part.
+ghost use mathlib.Core.Path.{_≡_};
+ghost use Prim.Native.Nat.{_+_};
+ghost use denote.Ref.{ptr};
+ghost use Rattle.packetrules.specs.Layout.{commandId, argCount};
+ghost use Rattle.packetrules.specs.Judge.{argumentsOf};
+ghost use Rattle.packetrules.specs.Outcome.{Accepts};
+
+// internal: the command id of a packet that its caller has judged.
+pub fn command_id(packet: &[u8]) -> u16
+    requires { ⌜ Accepts (now packet) ⌝ }
+    ensures { λ r. ⌜ r ≡ commandId (now (packet .entry)) ⌝ }
+{
+    wire::word::big(packet[8], packet[9])
+}
+
+// internal: the argument count of a packet that its caller has judged.
+pub fn arg_count(packet: &[u8]) -> u8
+    requires { ⌜ Accepts (now packet) ⌝ }
+    ensures { λ r. ⌜ r ≡ argCount (now (packet .entry)) ⌝ }
+{
+    let field = wire::word::big(packet[4], packet[5]) as usize;
+    let pads = bitfields::pads(packet[6]) as usize;
+    (field + 1 - pads - 4) as u8
+}
+
+// internal: the argument part of a packet that its caller has judged.
+pub fn accepted_part(packet: &[u8]) -> &[u8]
+    requires { ⌜ Accepts (now packet) ⌝ }
+    ensures content { λ r. ⌜ now r ≡ argumentsOf (now (packet .entry)) ⌝ }
+    ensures place { λ r. ⌜ (ptr r .0 ≡ ptr (packet .entry) .0) × (ptr r .1 ≡ 10 + ptr (packet .entry) .1) ⌝ }
+{
+    let end = 10 + arg_count(packet) as usize;
+    &packet[10..end]
+}

@@ -1,0 +1,12 @@
+-- The answers that have no id: their other numbers are zero.
+use Prim.Native.Nat.{ℕ}
+use Rattle.state.specs.declared.types.Run.{Run}
+use Rattle.steprules.specs.declared.types.Answer.{Answer}
+use Rattle.steprules.specs.declared.types.Stepped.{Stepped}
+
+abbrev pub bareAnswer : ℕ → Answer
+bareAnswer n = record { answer = n; id = 0; dest = 0; written = 0 }
+
+-- 20 and 21 change nothing at all
+abbrev pub unchanged : Run → ℕ → Stepped
+unchanged run n = record { run = run; answer = bareAnswer n }

@@ -1,0 +1,131 @@
+-- Demand 1 of the steps: what a refusal leaves as it was. Answers 20 and 21 change nothing at all; any answer but 10 changes
+-- no output byte; a rejected packet moves only R; a tick and a fault leave what they must.
+use mathlib.Core.Path.{_≡_, refl, sym}
+use mathlib.Core.Bool.{Bool}
+use mathlib.Core.List.{List}
+use Prim.Native.Nat.{ℕ, _+_, _%_, _≤_}
+use native.Mathlib.Omega.{arith}
+use lib.Dec.{lit≤}
+use Rattle.packetrules.specs.Outcome.{Outcome, BadForm, not-version-0, not-telecommand, not-secondary, not-xor-0, below-6, not-whole, bad-form, no-room, too-many, taken}
+use Rattle.state.specs.declared.types.Config.{Config}
+use Rattle.state.specs.declared.types.Run.{Run}
+use Rattle.state.specs.declared.types.Counts.{Counts}
+use Rattle.state.specs.Tables.{Tables}
+use Rattle.steprules.specs.declared.types.Stepped.{Stepped}
+use Rattle.counters.specs.Counters.{rejectedCounts}
+use Rattle.dispatch.specs.DispatchLaws.{sent-not}
+use Rattle.steprules.specs.Step.{packetOutput, packetStepOf, faultOutput, faultStepOf, tickStep, tickStepOf, rejectedStep}
+use Rattle.steprules.specs.Outcome.{Answered, stopped, miscounted, no-row, row-done, arm-taken, own-done, no-route, goes, Faulted, unlisted, quiet, responds, PacketSteps, packet-steps, FaultSteps, fault-steps, TickSteps, tick-steps}
+use Rattle.steprules.specs.Outcome as outcome
+
+-- ---- the numbers
+
+bad-range : {s : List ℕ} {n : ℕ} → BadForm s n → (22 ≤ n) × (n ≤ 29)
+bad-range (not-version-0 h) = (lit≤ tt, lit≤ tt)
+bad-range (not-telecommand v h) = (lit≤ tt, lit≤ tt)
+bad-range (not-secondary v t h) = (lit≤ tt, lit≤ tt)
+bad-range (not-xor-0 v t f h) = (lit≤ tt, lit≤ tt)
+
+-- the judge refuses with 22 to 29
+pub refused-range : {s : List ℕ} {n : ℕ} → Outcome s n → (n ≡ 0 → ⊥) → (22 ≤ n) × (n ≤ 29)
+refused-range (below-6 h) z = (lit≤ tt, lit≤ tt)
+refused-range (not-whole a h) z = (lit≤ tt, lit≤ tt)
+refused-range (bad-form a b) z = bad-range b
+refused-range (no-room a f h) z = (lit≤ tt, lit≤ tt)
+refused-range (too-many a f r h) z = (lit≤ tt, lit≤ tt)
+refused-range (taken a) z = absurd (z refl)
+
+-- an accepted packet gets none of 20 to 29
+pub answered-range : {t : Tables} {armed : Bool} {id : ℕ} {args : List ℕ} {n : ℕ} → Answered t armed id args n → 20 ≤ n → n ≤ 29 → ⊥
+answered-range (stopped a) h l = omega arith
+answered-range (miscounted a b c) h l = omega arith
+answered-range (no-row a b c d e) h l = omega arith
+answered-range (row-done a b c d e) h l = omega arith
+answered-range (arm-taken a b c d e) h l = omega arith
+answered-range (own-done a b c d e) h l = omega arith
+answered-range (no-route a b c) h l = omega arith
+answered-range (goes a b c) h l = omega arith
+
+faulted-range : {t : Tables} {states : List ℕ} {f n : ℕ} → Faulted t states f n → 20 ≤ n → n ≤ 21 → ⊥
+faulted-range (unlisted m) h l = omega arith
+faulted-range (quiet m s) h l = omega arith
+faulted-range (responds m s) h l = omega arith
+
+-- ---- 20 and 21 change nothing at all
+
+module _ (c : Config) (run : Run) (p : List ℕ) (room : ℕ) where
+  nothing : (r : Stepped) → PacketSteps c run p room r → 20 ≤ r .answer .answer → r .answer .answer ≤ 21 → r .run ≡ run
+  unfolding rejectedStep
+  nothing r (outcome.breaks e) h l = refl
+  nothing r (outcome.cramped e q) h l = refl
+  nothing r (outcome.rejects e q n o z) h l = absurd (omega (arith, refused-range o z))
+  nothing r (outcome.does e q a n o) h l = absurd (answered-range o h (omega arith))
+
+  pub packet-refused-changes-nothing : 20 ≤ packetStepOf c run p room .answer .answer → packetStepOf c run p room .answer .answer ≤ 21 → packetStepOf c run p room .run ≡ run
+  packet-refused-changes-nothing = nothing (packetStepOf c run p room) (packet-steps c run p room)
+
+  -- a rejected packet (22 to 29) moves only the rejected count
+  only-r : (r : Stepped) → PacketSteps c run p room r → 22 ≤ r .answer .answer → r .answer .answer ≤ 29 → r .run ≡ record { arm = run .arm; counts = rejectedCounts (run .counts); states = run .states }
+  unfolding rejectedStep
+  only-r r (outcome.breaks e) h l = absurd (omega arith)
+  only-r r (outcome.cramped e q) h l = absurd (omega arith)
+  only-r r (outcome.rejects e q n o z) h l = refl
+  only-r r (outcome.does e q a n o) h l = absurd (answered-range o (omega arith) l)
+
+  pub rejected-moves-only-r : 22 ≤ packetStepOf c run p room .answer .answer → packetStepOf c run p room .answer .answer ≤ 29
+      → packetStepOf c run p room .run ≡ record { arm = run .arm; counts = rejectedCounts (run .counts); states = run .states }
+  rejected-moves-only-r = only-r (packetStepOf c run p room) (packet-steps c run p room)
+
+-- R by one, modulo 65,536, and the six others stay
+pub rejected-counts-are : (k : Counts) → rejectedCounts k ≡ record { a = k .a; r = (k .r + 1) % 65536; d = k .d; p = k .p; u = k .u; i = k .i; f = k .f }
+unfolding rejectedCounts
+rejected-counts-are k = refl
+
+module _ (c : Config) (run : Run) (f room : ℕ) where
+  nothing-f : (r : Stepped) → FaultSteps c run f room r → 20 ≤ r .answer .answer → r .answer .answer ≤ 21 → r .run ≡ run
+  nothing-f r (outcome.breaks e) h l = refl
+  nothing-f r (outcome.cramped e q) h l = refl
+  nothing-f r (outcome.does e q n o) h l = absurd (faulted-range o h l)
+
+  pub fault-refused-changes-nothing : 20 ≤ faultStepOf c run f room .answer .answer → faultStepOf c run f room .answer .answer ≤ 21 → faultStepOf c run f room .run ≡ run
+  fault-refused-changes-nothing = nothing-f (faultStepOf c run f room) (fault-steps c run f room)
+
+  -- a fault leaves the arm record, whatever its answer
+  same-arm : (r : Stepped) → FaultSteps c run f room r → r .run .arm ≡ run .arm
+  same-arm r (outcome.breaks e) = refl
+  same-arm r (outcome.cramped e q) = refl
+  same-arm r (outcome.does e q n o) = refl
+
+  pub fault-leaves-arm : faultStepOf c run f room .run .arm ≡ run .arm
+  fault-leaves-arm = same-arm (faultStepOf c run f room) (fault-steps c run f room)
+
+  -- only a fault that is answered 10 may change a fault state
+  same-states : (r : Stepped) → FaultSteps c run f room r → (r .answer .answer ≡ 10 → ⊥) → r .run .states ≡ run .states
+  same-states r (outcome.breaks e) h = refl
+  same-states r (outcome.cramped e q) h = refl
+  same-states r (outcome.does e q n (unlisted m)) h = refl
+  same-states r (outcome.does e q n (quiet m s)) h = refl
+  same-states r (outcome.does e q n (responds m s)) h = absurd (h refl)
+
+  pub undispatched-fault-leaves-states : (faultStepOf c run f room .answer .answer ≡ 10 → ⊥) → faultStepOf c run f room .run .states ≡ run .states
+  undispatched-fault-leaves-states = same-states (faultStepOf c run f room) (fault-steps c run f room)
+
+-- a tick leaves the counters and the fault states, whatever its answer
+module _ (c : Config) (run : Run) where
+  keeps-rest : (r : Stepped) → TickSteps c run r → (r .run .counts ≡ run .counts) × (r .run .states ≡ run .states)
+  unfolding tickStep
+  keeps-rest r (outcome.breaks e) = (refl, refl)
+  keeps-rest r (outcome.does e) = (refl, refl)
+
+  pub tick-leaves-rest : (tickStepOf c run .run .counts ≡ run .counts) × (tickStepOf c run .run .states ≡ run .states)
+  tick-leaves-rest = keeps-rest (tickStepOf c run) (tick-steps c run)
+
+-- ---- any answer but 10 changes no output byte
+
+pub packet-output-stays : (t : Tables) (n : ℕ) (p out : List ℕ) → (n ≡ 10 → ⊥) → packetOutput t n p out ≡ out
+unfolding packetOutput
+packet-output-stays t n p out h = sym (sent-not n _ _ _ out h)
+
+pub fault-output-stays : (t : Tables) (n f : ℕ) (out : List ℕ) → (n ≡ 10 → ⊥) → faultOutput t n f out ≡ out
+unfolding faultOutput
+fault-output-stays t n f out h = sym (sent-not n _ _ _ out h)

@@ -1,0 +1,155 @@
+-- Demand 2 of the steps: accepted exactly when the rules say so, else the first refusal in their order; and a command sent on
+-- carries exactly the id and argument bytes of its packet or fault row, its source, and the destination of its route.
+use mathlib.Core.Path.{_≡_, refl, sym, ap, _∙_}
+use mathlib.Core.Bool.{true, false, false≢true}
+use mathlib.Core.List.{List, map}
+use Prim.Native.Nat.{ℕ, _+_, _*_, _≤_}
+use native.Mathlib.Omega.{arith}
+use lib.ListN.{length, getD, take, drop}
+use lib.Seq.{take-append-seam, drop-at}
+use Rattle.packetrules.specs.Layout.{commandId}
+use Rattle.packetrules.specs.Judge.{argumentsOf}
+use Rattle.packetrules.specs.Outcome.{Outcome, Accepts}
+use Rattle.packetrules.specs.Laws.{only, accepted}
+use Rattle.state.specs.declared.types.Config.{Config}
+use Rattle.state.specs.declared.types.Run.{Run}
+use Rattle.state.specs.Tables.{Tables, faultId, routed, tablesOf}
+use Rattle.state.specs.Rules.{member}
+use Rattle.state.specs.Test.{keepsRules}
+use Rattle.steprules.specs.declared.types.Stepped.{Stepped}
+use Rattle.faultstates.specs.FaultStates.{enabled, rowFor, stateFor}
+use Rattle.dispatch.specs.Dispatch.{commandBytes, sent, destOf}
+use Rattle.dispatch.specs.DispatchLaws.{sent-10}
+use Rattle.answers.specs.Answers.{blocked}
+use Rattle.steprules.specs.Step.{packetOutput, packetStepOf, faultOutput, faultStepOf, faultStep, rejectedStep}
+use Rattle.steprules.specs.Outcome.{stopped, miscounted, no-row, row-done, arm-taken, own-done, no-route, goes, unlisted, quiet, responds, PacketSteps, packet-steps, FaultSteps, fault-steps}
+use Rattle.steprules.specs.Outcome as outcomes
+use Rattle.steprules.specs.Demand1.{refused-range, answered-range}
+
+-- ---- accepted exactly when the state keeps its rules, there is room, and the judge accepts
+
+abbrev pub None20to29 : ℕ → Type 0
+None20to29 n = 20 ≤ n → n ≤ 29 → ⊥
+
+module _ (c : Config) (run : Run) (p : List ℕ) (room : ℕ) where
+  was-accepted : (r : Stepped) → PacketSteps c run p room r → None20to29 (r .answer .answer) → (keepsRules c run ≡ true) × (260 ≤ room) × Accepts p
+  unfolding rejectedStep
+  was-accepted r (outcomes.breaks e) h = absurd (h (omega arith) (omega arith))
+  was-accepted r (outcomes.cramped e q) h = absurd (h (omega arith) (omega arith))
+  was-accepted r (outcomes.rejects e q n o z) h = absurd (h (omega (arith, refused-range o z)) (omega (arith, refused-range o z)))
+  was-accepted r (outcomes.does e q a n o) h = (e, q, a)
+
+  pub accepted-only-if : None20to29 (packetStepOf c run p room .answer .answer) → (keepsRules c run ≡ true) × (260 ≤ room) × Accepts p
+  accepted-only-if = was-accepted (packetStepOf c run p room) (packet-steps c run p room)
+
+  is-accepted : (r : Stepped) → PacketSteps c run p room r → keepsRules c run ≡ true → 260 ≤ room → Accepts p → None20to29 (r .answer .answer)
+  unfolding rejectedStep
+  is-accepted r (outcomes.breaks e) k q a h l = false≢true (sym e ∙ k)
+  is-accepted r (outcomes.cramped e w) k q a h l = omega arith
+  is-accepted r (outcomes.rejects e w n o z) k q a h l = z (only o ∙ accepted a)
+  is-accepted r (outcomes.does e w b n o) k q a h l = answered-range o h l
+
+  pub accepted-if : keepsRules c run ≡ true → 260 ≤ room → Accepts p → None20to29 (packetStepOf c run p room .answer .answer)
+  accepted-if = is-accepted (packetStepOf c run p room) (packet-steps c run p room)
+
+  -- else, on such a state, it gets the first refusal in the order of the judge's rules, and no other
+  is-refused : (r : Stepped) → PacketSteps c run p room r → keepsRules c run ≡ true → 260 ≤ room → (n : ℕ) → Outcome p n → (n ≡ 0 → ⊥) → r .answer .answer ≡ n
+  unfolding rejectedStep
+  is-refused r (outcomes.breaks e) k q n o z = absurd (false≢true (sym e ∙ k))
+  is-refused r (outcomes.cramped e w) k q n o z = absurd (omega arith)
+  is-refused r (outcomes.rejects e w m b y) k q n o z = only b ∙ sym (only o)
+  is-refused r (outcomes.does e w b m d) k q n o z = absurd (z (only o ∙ accepted b))
+
+  pub refused-first : keepsRules c run ≡ true → 260 ≤ room → (n : ℕ) → Outcome p n → (n ≡ 0 → ⊥) → packetStepOf c run p room .answer .answer ≡ n
+  refused-first = is-refused (packetStepOf c run p room) (packet-steps c run p room)
+
+  -- ---- a dispatched packet: let past, no own id, routed; its id, its route's destination, 5 + count bytes
+
+  pub record Dispatched (r : Stepped) : Type 0 where
+    pub let-past : blocked (tablesOf c .protected) (run .arm .armed) (commandId p) ≡ false
+    pub is-routed : member (commandId p) (routed (tablesOf c)) ≡ true
+    pub id-is : r .answer .id ≡ commandId p
+    pub dest-is : r .answer .dest ≡ destOf (commandId p) (tablesOf c .routes)
+    pub written-is : r .answer .written ≡ 5 + length (argumentsOf p)
+
+  dispatched-as : (r : Stepped) → PacketSteps c run p room r → r .answer .answer ≡ 10 → Dispatched r
+  unfolding rejectedStep
+  dispatched-as r (outcomes.breaks e) h = absurd (omega arith)
+  dispatched-as r (outcomes.cramped e q) h = absurd (omega arith)
+  dispatched-as r (outcomes.rejects e q n o z) h = absurd (omega (arith, refused-range o z))
+  dispatched-as r (outcomes.does e q a n (stopped b)) h = absurd (omega arith)
+  dispatched-as r (outcomes.does e q a n (miscounted b d f)) h = absurd (omega arith)
+  dispatched-as r (outcomes.does e q a n (no-row b d f g i)) h = absurd (omega arith)
+  dispatched-as r (outcomes.does e q a n (row-done b d f g i)) h = absurd (omega arith)
+  dispatched-as r (outcomes.does e q a n (arm-taken b d f g i)) h = absurd (omega arith)
+  dispatched-as r (outcomes.does e q a n (own-done b d f g i)) h = absurd (omega arith)
+  dispatched-as r (outcomes.does e q a n (no-route b d f)) h = absurd (omega arith)
+  dispatched-as r (outcomes.does e q a n (goes b d f)) h = record { let-past = b; is-routed = f; id-is = refl; dest-is = refl; written-is = refl }
+
+  pub dispatched : packetStepOf c run p room .answer .answer ≡ 10 → Dispatched (packetStepOf c run p room)
+  dispatched = dispatched-as (packetStepOf c run p room) (packet-steps c run p room)
+
+  -- a protected command from a packet that finds the path unarmed is never dispatched
+  pub unarmed-never-dispatched : run .arm .armed ≡ false → member (commandId p) (tablesOf c .protected) ≡ true → packetStepOf c run p room .answer .answer ≡ 10 → ⊥
+  unfolding blocked
+  unarmed-never-dispatched u m h = let d = simp (u, m) at (dispatched h .let-past) in let z : _≡_ {A = ℕ} 0 1 = cc d in omega arith
+
+-- ---- the bytes of a command: source, id, count, arguments; later bytes stay
+
+pub record Carries (source id : ℕ) (args before after : List ℕ) : Type 0 where
+  pub source-is : getD after 0 0 * 256 + getD after 1 0 ≡ source
+  pub id-is : getD after 2 0 * 256 + getD after 3 0 ≡ id
+  pub count-is : getD after 4 0 ≡ length args
+  pub args-are : take (length args) (drop 5 after) ≡ args
+  pub later-stay : drop (5 + length args) after ≡ drop (5 + length args) before
+
+carries : (source id : ℕ) (args out : List ℕ) → Carries source id args out (sent 10 source id args out)
+carries source id args out =
+    let bytes = commandBytes source id args in
+    let e : length bytes ≡ 5 + length args = omega arith in
+    rw (← sent-10 10 source id args out refl)
+    (record {
+      source-is = omega arith;
+      id-is = omega arith;
+      count-is = refl;
+      args-are = take-append-seam args _;
+      later-stay = drop-at bytes (drop (length bytes) out) (5 + length args) e ∙ ap (λ (k : ℕ). drop k out) e;
+    })
+
+-- a packet's command carries the ground source, the packet's own id and its own arguments
+pub packet-carries : (t : Tables) (p out : List ℕ) → Carries (t .ground) (commandId p) (argumentsOf p) out (packetOutput t 10 p out)
+unfolding packetOutput
+packet-carries t p out = carries (t .ground) (commandId p) (argumentsOf p) out
+
+-- a response carries the fault source, the row's own command id and its own arguments
+pub fault-carries : (t : Tables) (f : ℕ) (out : List ℕ) → Carries (t .fault) (rowFor f (t .rows) .response) (rowFor f (t .rows) .args) out (faultOutput t 10 f out)
+unfolding faultOutput
+fault-carries t f out = carries (t .fault) (rowFor f (t .rows) .response) (rowFor f (t .rows) .args) out
+
+-- ---- a dispatched fault: listed, enabled; its row's response, that route's destination, 5 + count bytes
+
+module _ (c : Config) (run : Run) (f room : ℕ) where
+  pub record Responded (r : Stepped) : Type 0 where
+    pub listed : member f (map faultId (tablesOf c .rows)) ≡ true
+    pub was-enabled : stateFor f (tablesOf c .rows) (run .states) ≡ enabled
+    pub id-is : r .answer .id ≡ rowFor f (tablesOf c .rows) .response
+    pub dest-is : r .answer .dest ≡ destOf (rowFor f (tablesOf c .rows) .response) (tablesOf c .routes)
+    pub written-is : r .answer .written ≡ 5 + length (rowFor f (tablesOf c .rows) .args)
+
+  responded-as : (r : Stepped) → FaultSteps c run f room r → r .answer .answer ≡ 10 → Responded r
+  responded-as r (outcomes.breaks e) h = absurd (omega arith)
+  responded-as r (outcomes.cramped e q) h = absurd (omega arith)
+  responded-as r (outcomes.does e q n (unlisted m)) h = absurd (omega arith)
+  responded-as r (outcomes.does e q n (quiet m s)) h = absurd (omega arith)
+  responded-as r (outcomes.does e q n (responds m s)) h = record { listed = m; was-enabled = s; id-is = refl; dest-is = refl; written-is = refl }
+
+  pub responded : faultStepOf c run f room .answer .answer ≡ 10 → Responded (faultStepOf c run f room)
+  responded = responded-as (faultStepOf c run f room) (fault-steps c run f room)
+
+-- fault responses pass even for a protected id: the protected ids have no part in a fault step
+abbrev pub withProtected : List ℕ → Tables → Tables
+withProtected ids t = record { ground = t .ground; fault = t .fault; base = t .base; routes = t .routes; protected = ids; rows = t .rows }
+
+pub protection-not-asked : (t : Tables) (ids : List ℕ) (run : Run) (f : ℕ) → faultStep (withProtected ids t) run f ≡ faultStep t run f
+unfolding faultStep
+protection-not-asked t ids run f = refl

@@ -1,0 +1,64 @@
+-- Document 01, "Readings that the rules exclude": a theorem for each line, against the reading that it shuts out.
+use mathlib.Core.Path.{_≡_, sym, ap}
+use mathlib.Core.Bool.{true, false}
+use mathlib.Core.List.{List}
+use Prim.Native.Nat.{ℕ, _+_, _-_, _≤_}
+use native.Mathlib.Omega.{arith}
+use lib.Bits.{bitXor}
+use lib.ListN.{length, take}
+use borrow.Author.Tests.{ne-eqb}
+use Rattle.wire.specs.Xor.{xorAll}
+use Rattle.packetrules.specs.Layout.{dataLength, pads, padPart}
+use Rattle.packetrules.specs.Judge.{argumentsOf}
+use Rattle.packetrules.specs.Outcome.{Accepts}
+use Rattle.packetrules.specs.Parts.{argument-count, xor-with-pads}
+use Rattle.state.specs.declared.types.Config.{Config}
+use Rattle.state.specs.declared.types.Run.{Run}
+use Rattle.state.specs.Tables.{Tables}
+use Rattle.steprules.specs.declared.types.Stepped.{Stepped}
+use Rattle.arming.specs.Arming.{unarmed, armAfter, tickAnswer}
+use Rattle.arming.specs.ArmingLaws.{tick-last}
+use Rattle.answers.specs.Answers.{blocked, answerTo}
+use Rattle.steprules.specs.Step.{packetStepOf, faultStepOf, rejectedStep, tickStep}
+use Rattle.steprules.specs.Outcome.{only, stopped, PacketSteps, packet-steps}
+use Rattle.steprules.specs.Outcome as outcomes
+use Rattle.steprules.specs.Demand1.{refused-range, rejected-moves-only-r, undispatched-fault-leaves-states}
+
+-- "Counting pads as arguments": arguments, pads and the four bytes before them are the whole data
+pub pads-are-no-arguments : {p : List ℕ} → Accepts p → length (argumentsOf p) + pads p + 4 ≡ dataLength p
+pads-are-no-arguments a = omega (arith, argument-count a)
+
+-- ".. or leaving them out of the XOR": the ten bytes, the arguments and the pads together come to zero
+pub pads-are-in-the-xor : {p : List ℕ} → Accepts p → bitXor (xorAll (take 10 p)) (bitXor (xorAll (argumentsOf p)) (xorAll (padPart p))) ≡ 0
+pads-are-in-the-xor a = xor-with-pads a
+
+-- "Letting a rejected packet unarm"
+pub rejected-leaves-arm : (c : Config) (run : Run) (p : List ℕ) (room : ℕ) → 22 ≤ packetStepOf c run p room .answer .answer → packetStepOf c run p room .answer .answer ≤ 29
+    → packetStepOf c run p room .run .arm ≡ run .arm
+rejected-leaves-arm c run p room h l = ap (λ (r : Run). r .arm) (rejected-moves-only-r c run p room h l)
+
+-- ".. or letting an unregistered id stay armed": every accepted packet but an arm that was taken leaves the path unarmed
+module _ (c : Config) (run : Run) (p : List ℕ) (room : ℕ) where
+  unarms : (r : Stepped) → PacketSteps c run p room r → (20 ≤ r .answer .answer → r .answer .answer ≤ 29 → ⊥) → (r .answer .answer ≡ 11 → ⊥) → r .run .arm ≡ unarmed
+  unfolding rejectedStep armAfter
+  unarms r (outcomes.breaks e) h z = absurd (h (omega arith) (omega arith))
+  unarms r (outcomes.cramped e q) h z = absurd (h (omega arith) (omega arith))
+  unarms r (outcomes.rejects e q n o y) h z = absurd (h (omega (arith, refused-range o y)) (omega (arith, refused-range o y)))
+  unarms r (outcomes.does e q a n o) h z = simp (ne-eqb n 11 z)
+
+  pub accepted-unarms : (20 ≤ packetStepOf c run p room .answer .answer → packetStepOf c run p room .answer .answer ≤ 29 → ⊥)
+      → (packetStepOf c run p room .answer .answer ≡ 11 → ⊥) → packetStepOf c run p room .run .arm ≡ unarmed
+  accepted-unarms = unarms (packetStepOf c run p room) (packet-steps c run p room)
+
+-- "Testing the timeout before the tick's subtraction, one tick late": the tick that takes the last one ends it
+pub last-tick-ends : (run : Run) → run .arm .armed ≡ true → run .arm .ticks ≡ 1 → (tickStep run .answer .answer ≡ 15) × (tickStep run .run .arm ≡ unarmed)
+unfolding tickStep tickAnswer
+last-tick-ends run a e = (simp (a, e), sym (tick-last (run .arm .armed) (run .arm .ticks) a (λ z. omega arith) e))
+
+-- "Checking a protected own command's length before its protection": 30, whatever the arguments
+pub protection-before-length : (t : Tables) (id : ℕ) (args : List ℕ) → blocked (t .protected) false id ≡ true → answerTo t false id args ≡ 30
+protection-before-length t id args b = sym (only {t = t} {args = args} (stopped b))
+
+-- "Latching a response that was not dispatched"
+pub undispatched-never-latches : (c : Config) (run : Run) (f room : ℕ) → (faultStepOf c run f room .answer .answer ≡ 10 → ⊥) → faultStepOf c run f room .run .states ≡ run .states
+undispatched-never-latches = undispatched-fault-leaves-states

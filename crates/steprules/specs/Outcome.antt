@@ -1,0 +1,166 @@
+-- The answers read as statements: what each answer to an accepted packet, to a fault and to any step says, in both directions.
+use mathlib.Core.Path.{_≡_, refl, _∙_}
+use mathlib.Core.Bool.{Bool, true, false}
+use mathlib.Core.List.{List, map}
+use Prim.Native.Nat.{ℕ, _<_, _≤_}
+use lib.Dec.{eqb, leb, ltb}
+use lib.ListN.{length}
+use borrow.Author.Tests.{eqb-true, eqb-false, ltb-true, ltb-false, leb-true, leb-false}
+use Rattle.packetrules.specs.Layout.{commandId}
+use Rattle.packetrules.specs.Judge.{refusalOf, argumentsOf}
+use Rattle.packetrules.specs.Outcome.{Outcome, Accepts}
+use Rattle.packetrules.specs.Laws.{outcome, accepts}
+use Rattle.state.specs.declared.types.Config.{Config}
+use Rattle.state.specs.declared.types.Run.{Run}
+use Rattle.state.specs.Tables.{Tables, faultId, routed, tablesOf}
+use Rattle.state.specs.Rules.{member}
+use Rattle.state.specs.Test.{keepsRules}
+use Rattle.steprules.specs.declared.types.Stepped.{Stepped}
+use Rattle.steprules.specs.Bare.{unchanged}
+use Rattle.faultstates.specs.FaultStates.{enabled, stateFor}
+use Rattle.answers.specs.Own.{ownNumber, argsWanted, onRow, faultArg}
+use Rattle.answers.specs.Answers.{blocked, routeAnswer, answerTo, faultAnswer}
+use Rattle.answers.specs.OwnLaws.{own-31, own-32, own-row, own-arm, own-other}
+use Rattle.answers.specs.AnswerLaws.{answer-30, answer-own, answer-route, fault-34, fault-13, fault-10}
+use Rattle.steprules.specs.Step.{acted, acceptedStep, rejectedStep, packetStepOf, faulted, faultStep, faultStepOf, tickStep, tickStepOf}
+use Rattle.steprules.specs.StepLaws.{packet-rejected, packet-accepted}
+
+-- ---- an accepted packet: the first condition that holds, in the paper's order
+
+pub data Answered (t : Tables) (armed : Bool) (id : ℕ) (args : List ℕ) : ℕ → Type 0 where
+  -- protected and unarmed
+  stopped : blocked (t .protected) armed id ≡ true → Answered t armed id args 30
+  -- own command, wrong argument count
+  miscounted : blocked (t .protected) armed id ≡ false → ownNumber (t .base) id < 8 → (length args ≡ argsWanted (ownNumber (t .base) id) → ⊥) → Answered t armed id args 31
+  -- own command, fault id not in the table
+  no-row : blocked (t .protected) armed id ≡ false → ownNumber (t .base) id < 8 → length args ≡ argsWanted (ownNumber (t .base) id) → onRow (ownNumber (t .base) id) ≡ true → member (faultArg args) (map faultId (t .rows)) ≡ false → Answered t armed id args 32
+  -- own command done on a row
+  row-done : blocked (t .protected) armed id ≡ false → ownNumber (t .base) id < 8 → length args ≡ argsWanted (ownNumber (t .base) id) → onRow (ownNumber (t .base) id) ≡ true → member (faultArg args) (map faultId (t .rows)) ≡ true → Answered t armed id args 12
+  -- arm taken
+  arm-taken : blocked (t .protected) armed id ≡ false → ownNumber (t .base) id < 8 → length args ≡ argsWanted (ownNumber (t .base) id) → onRow (ownNumber (t .base) id) ≡ false → ownNumber (t .base) id ≡ 0 → Answered t armed id args 11
+  -- another own command done
+  own-done : blocked (t .protected) armed id ≡ false → ownNumber (t .base) id < 8 → length args ≡ argsWanted (ownNumber (t .base) id) → onRow (ownNumber (t .base) id) ≡ false → (ownNumber (t .base) id ≡ 0 → ⊥) → Answered t armed id args 12
+  -- neither own nor routed
+  no-route : blocked (t .protected) armed id ≡ false → 8 ≤ ownNumber (t .base) id → member id (routed t) ≡ false → Answered t armed id args 33
+  -- command dispatched
+  goes : blocked (t .protected) armed id ≡ false → 8 ≤ ownNumber (t .base) id → member id (routed t) ≡ true → Answered t armed id args 10
+
+module _ {t : Tables} {armed : Bool} {id : ℕ} {args : List ℕ} where
+  -- no other answer fits
+  pub only : {n : ℕ} → Answered t armed id args n → n ≡ answerTo t armed id args
+  unfolding routeAnswer
+  only (stopped b) = answer-30 _ _ _ _ _ _ _ b
+  only (miscounted b o h) = own-31 _ _ _ h ∙ answer-own _ _ _ _ _ _ _ b o
+  only (no-row b o e r h) = own-32 _ _ _ e r h ∙ answer-own _ _ _ _ _ _ _ b o
+  only (row-done b o e r h) = own-row _ _ _ e r h ∙ answer-own _ _ _ _ _ _ _ b o
+  only (arm-taken b o e r h) = own-arm _ _ _ e r h ∙ answer-own _ _ _ _ _ _ _ b o
+  only (own-done b o e r h) = own-other _ _ _ e r h ∙ answer-own _ _ _ _ _ _ _ b o
+  only (no-route b o h) = rw (← answer-route (routed t) (t .protected) (map faultId (t .rows)) armed id (ownNumber (t .base) id) args b o, h)
+  only (goes b o h) = rw (← answer-route (routed t) (t .protected) (map faultId (t .rows)) armed id (ownNumber (t .base) id) args b o, h)
+
+-- some answer's conditions hold
+pub answered : (t : Tables) (armed : Bool) (id : ℕ) (args : List ℕ) → Answered t armed id args (answerTo t armed id args)
+answered t armed id args = go (blocked (t .protected) armed id) refl (ltb k 8) refl
+  where
+    k : ℕ
+    k = ownNumber (t .base) id
+
+    as-is : {n : ℕ} → Answered t armed id args n → Answered t armed id args (answerTo t armed id args)
+    as-is a = rw (← only a) a
+
+    own : blocked (t .protected) armed id ≡ false → k < 8
+        → (b : Bool) → eqb (length args) (argsWanted k) ≡ b
+        → (r : Bool) → onRow k ≡ r
+        → (i : Bool) → member (faultArg args) (map faultId (t .rows)) ≡ i
+        → (z : Bool) → eqb k 0 ≡ z
+        → Answered t armed id args (answerTo t armed id args)
+    own u o false e r er i ei z ez = as-is (miscounted u o (eqb-false _ _ e))
+    own u o true e true er false ei z ez = as-is (no-row u o (eqb-true _ _ e) er ei)
+    own u o true e true er true ei z ez = as-is (row-done u o (eqb-true _ _ e) er ei)
+    own u o true e false er i ei true ez = as-is (arm-taken u o (eqb-true _ _ e) er (eqb-true _ _ ez))
+    own u o true e false er i ei false ez = as-is (own-done u o (eqb-true _ _ e) er (eqb-false _ _ ez))
+
+    other : blocked (t .protected) armed id ≡ false → 8 ≤ k → (i : Bool) → member id (routed t) ≡ i → Answered t armed id args (answerTo t armed id args)
+    other u o true e = as-is (goes u o e)
+    other u o false e = as-is (no-route u o e)
+
+    go : (b : Bool) → blocked (t .protected) armed id ≡ b → (o : Bool) → ltb k 8 ≡ o → Answered t armed id args (answerTo t armed id args)
+    go true e o eo = as-is (stopped e)
+    go false e true eo = own e (ltb-true _ _ eo) (eqb (length args) (argsWanted k)) refl (onRow k) refl (member (faultArg args) (map faultId (t .rows))) refl (eqb k 0) refl
+    go false e false eo = other e (ltb-false _ _ eo) (member id (routed t)) refl
+
+-- ---- a fault
+
+pub data Faulted (t : Tables) (states : List ℕ) (f : ℕ) : ℕ → Type 0 where
+  -- fault id not in the table
+  unlisted : member f (map faultId (t .rows)) ≡ false → Faulted t states f 34
+  -- its response disabled or latched
+  quiet : member f (map faultId (t .rows)) ≡ true → (stateFor f (t .rows) states ≡ enabled → ⊥) → Faulted t states f 13
+  -- its response dispatched
+  responds : member f (map faultId (t .rows)) ≡ true → stateFor f (t .rows) states ≡ enabled → Faulted t states f 10
+
+pub only-fault : {t : Tables} {states : List ℕ} {f n : ℕ} → Faulted t states f n → n ≡ faultAnswer (t .rows) states f
+only-fault (unlisted m) = fault-34 _ _ _ m
+only-fault (quiet m h) = fault-13 _ _ _ m h
+only-fault (responds m h) = fault-10 _ _ _ m h
+
+pub faulted-as : (t : Tables) (states : List ℕ) (f : ℕ) → Faulted t states f (faultAnswer (t .rows) states f)
+faulted-as t states f = go (member f (map faultId (t .rows))) refl (eqb (stateFor f (t .rows) states) enabled) refl
+  where
+    as-is : {n : ℕ} → Faulted t states f n → Faulted t states f (faultAnswer (t .rows) states f)
+    as-is a = rw (← only-fault a) a
+
+    go : (m : Bool) → member f (map faultId (t .rows)) ≡ m → (s : Bool) → eqb (stateFor f (t .rows) states) enabled ≡ s → Faulted t states f (faultAnswer (t .rows) states f)
+    go false em s es = as-is (unlisted em)
+    go true em false es = as-is (quiet em (eqb-false _ _ es))
+    go true em true es = as-is (responds em (eqb-true _ _ es))
+
+-- ---- any step, on any state and any room
+
+pub data PacketSteps (c : Config) (run : Run) (p : List ℕ) (room : ℕ) : Stepped → Type 0 where
+  breaks : keepsRules c run ≡ false → PacketSteps c run p room (unchanged run 20)
+  cramped : keepsRules c run ≡ true → room < 260 → PacketSteps c run p room (unchanged run 21)
+  rejects : keepsRules c run ≡ true → 260 ≤ room → (n : ℕ) → Outcome p n → (n ≡ 0 → ⊥) → PacketSteps c run p room (rejectedStep run n)
+  does : keepsRules c run ≡ true → 260 ≤ room → Accepts p → (n : ℕ) → Answered (tablesOf c) (run .arm .armed) (commandId p) (argumentsOf p) n → PacketSteps c run p room (acted (tablesOf c) run (commandId p) (argumentsOf p) n)
+
+pub packet-steps : (c : Config) (run : Run) (p : List ℕ) (room : ℕ) → PacketSteps c run p room (packetStepOf c run p room)
+unfolding packetStepOf acceptedStep
+packet-steps c run p room = go (keepsRules c run) refl (leb 260 room) refl (eqb (refusalOf p) 0) refl
+  where
+    t : Tables
+    t = tablesOf c
+
+    go : (k : Bool) → keepsRules c run ≡ k → (l : Bool) → leb 260 room ≡ l → (z : Bool) → eqb (refusalOf p) 0 ≡ z → PacketSteps c run p room (packetStepOf c run p room)
+    go false e l el z ez = rw e (breaks e)
+    go true e false el z ez = rw (e, el) (cramped e (leb-false _ _ el))
+    go true e true el false ez =
+        rw (e, el, ← packet-rejected t run p (refusalOf p) (refl, eqb-false _ _ ez)) (rejects e (leb-true _ _ el) (refusalOf p) (outcome p) (eqb-false _ _ ez))
+    go true e true el true ez =
+        rw (e, el, ← packet-accepted t run p (commandId p) (argumentsOf p) (eqb-true _ _ ez) refl refl)
+        (does e (leb-true _ _ el) (accepts p (eqb-true _ _ ez)) (answerTo t (run .arm .armed) (commandId p) (argumentsOf p)) (answered t (run .arm .armed) (commandId p) (argumentsOf p)))
+
+pub data FaultSteps (c : Config) (run : Run) (f room : ℕ) : Stepped → Type 0 where
+  breaks : keepsRules c run ≡ false → FaultSteps c run f room (unchanged run 20)
+  cramped : keepsRules c run ≡ true → room < 260 → FaultSteps c run f room (unchanged run 21)
+  does : keepsRules c run ≡ true → 260 ≤ room → (n : ℕ) → Faulted (tablesOf c) (run .states) f n → FaultSteps c run f room (faulted (tablesOf c) run f n)
+
+pub fault-steps : (c : Config) (run : Run) (f room : ℕ) → FaultSteps c run f room (faultStepOf c run f room)
+unfolding faultStepOf faultStep
+fault-steps c run f room = go (keepsRules c run) refl (leb 260 room) refl
+  where
+    go : (k : Bool) → keepsRules c run ≡ k → (l : Bool) → leb 260 room ≡ l → FaultSteps c run f room (faultStepOf c run f room)
+    go false e l el = rw e (breaks e)
+    go true e false el = rw (e, el) (cramped e (leb-false _ _ el))
+    go true e true el = rw (e, el) (does e (leb-true _ _ el) (faultAnswer (tablesOf c .rows) (run .states) f) (faulted-as (tablesOf c) (run .states) f))
+
+pub data TickSteps (c : Config) (run : Run) : Stepped → Type 0 where
+  breaks : keepsRules c run ≡ false → TickSteps c run (unchanged run 20)
+  does : keepsRules c run ≡ true → TickSteps c run (tickStep run)
+
+pub tick-steps : (c : Config) (run : Run) → TickSteps c run (tickStepOf c run)
+unfolding tickStepOf
+tick-steps c run = go (keepsRules c run) refl
+  where
+    go : (k : Bool) → keepsRules c run ≡ k → TickSteps c run (tickStepOf c run)
+    go false e = rw e (breaks e)
+    go true e = rw e (does e)

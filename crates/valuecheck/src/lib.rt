@@ -1,0 +1,75 @@
+// The tests of single values that the judge of a state asks, and what joins their answers.
+ghost use mathlib.Core.Path.{_≡_};
+ghost use mathlib.Core.Bool.{_&&_, _||_};
+ghost use Prim.Native.Nat.{_<_};
+ghost use Rattle.state.specs.Test.{counted, armOk, stateOk};
+
+// Both hold. A leaf and no operator, so that a loop has no branches that meet.
+pub fn both(a: bool, b: bool) -> bool
+    ensures { λ r. ⌜ r ≡ (a && b) ⌝ }
+{
+    if a {
+        return b;
+    }
+    false
+}
+
+// All four hold.
+pub fn all(a: bool, b: bool, c: bool, d: bool) -> bool
+    ensures { λ r. ⌜ r ≡ (a && (b && (c && d))) ⌝ }
+{
+    both(a, both(b, both(c, d)))
+}
+
+// One holds.
+pub fn either(a: bool, b: bool) -> bool
+    ensures { λ r. ⌜ r ≡ (a || b) ⌝ }
+{
+    if a {
+        return true;
+    }
+    b
+}
+
+// The id with room for one more.
+pub fn wide(x: u16) -> usize
+    ensures { λ r. ⌜ (r ≡ x) × (r < 65536) ⌝ }
+{
+    x as usize
+}
+
+// No table has more rows than its limit.
+pub fn counts_ok(nroutes: usize, nprotected: usize, nrows: usize) -> bool
+    ensures { λ r. ⌜ r ≡ counted nroutes nprotected nrows ⌝ }
+{
+    if nroutes > 128 {
+        return false;
+    }
+    if nprotected > 32 {
+        return false;
+    }
+    nrows <= 32
+}
+
+// Unarmed with no ticks, or armed with at most 255.
+pub fn arm_ok(armed: bool, ticks: u16) -> bool
+    ensures { λ r. ⌜ r ≡ armOk armed ticks ⌝ }
+{
+    if armed {
+        return ticks <= 255;
+    }
+    ticks == 0
+}
+
+// A known fault state, and latched only in a row that latches.
+pub fn state_ok(latching: u8, s: u8) -> bool
+    ensures { λ r. ⌜ r ≡ stateOk latching s ⌝ }
+{
+    if s > 2 {
+        return false;
+    }
+    if s < 2 {
+        return true;
+    }
+    latching != 0
+}

@@ -1,0 +1,202 @@
+/*
+ * The onboard command path, for C. Link with target/staticlib/libexport.a (x86-64 Linux), which `rt staticlib export` writes
+ * once every function in it is proved to meet its contract. docs/EVIDENCE.md says what is proved of each.
+ *
+ * Every function here takes any bytes, any configuration and any run, and answers: none stops, and none reads or writes
+ * outside what it is lent. What the caller owes is C's own: a pointer to so many bytes (not null, even where the length is 0),
+ * no other access to a buffer during the call, and input buffers that do not overlap the output. Two calls share nothing, so
+ * threads need no lock. Structs go by value, in and out; a state is kept by whoever calls.
+ */
+#ifndef TAMEZOHISHU_H
+#define TAMEZOHISHU_H
+
+#include <stddef.h>
+#include <stdint.h>
+
+#ifdef __cplusplus
+extern "C" {
+#endif
+
+/* ---- numbers ---- */
+
+/* answers of loading: 0, or the first refusal that fits the first bad record */
+enum {
+    TZ_LOADED = 0,
+    TZ_PAST_END = 1,        /* header or body passes the end of the image */
+    TZ_BAD_KIND = 2,        /* kind not 1 to 4 */
+    TZ_BAD_LENGTH = 3,      /* body length wrong for the kind, or more than 16 arguments */
+    TZ_BAD_ORDER = 4,       /* first record not kind 1, a second kind 1, a kind that falls, an id not above the one before */
+    TZ_EMPTY = 5,           /* empty image */
+    TZ_TOO_MANY = 6,        /* one row more than the limit */
+    TZ_BROKEN_RULE = 7      /* any other rule of the image broken */
+};
+
+/* answers of a step; the judge by itself answers 0 or one of 22 to 29 */
+enum {
+    TZ_DISPATCHED = 10,         /* command dispatched */
+    TZ_ARMED = 11,              /* arm taken */
+    TZ_DONE = 12,               /* own command done */
+    TZ_QUIET = 13,              /* fault known, its response disabled or latched */
+    TZ_TICK = 14,               /* tick */
+    TZ_UNARMED = 15,            /* tick that ended the armed state */
+    TZ_BAD_STATE = 20,          /* state breaks its rules */
+    TZ_NO_ROOM = 21,            /* output room below 260 bytes */
+    TZ_SHORT = 22,              /* packet below 6 bytes */
+    TZ_BAD_SIZE = 23,           /* packet size not 7 + length field */
+    TZ_BAD_VERSION = 24,        /* version not 0 */
+    TZ_BAD_TYPE = 25,           /* type not telecommand */
+    TZ_NO_SECONDARY = 26,       /* no secondary header */
+    TZ_BAD_XOR = 27,            /* XOR not zero */
+    TZ_NO_ARGUMENTS = 28,       /* data length - pads below 4 */
+    TZ_TOO_LONG = 29,           /* more than 255 arguments */
+    TZ_PROTECTED = 30,          /* protected and unarmed */
+    TZ_BAD_COUNT = 31,          /* own command, wrong argument count */
+    TZ_NO_FAULT = 32,           /* own command, fault id not in the table */
+    TZ_UNKNOWN = 33,            /* id neither own nor routed */
+    TZ_UNKNOWN_FAULT = 34       /* fault id not in the table */
+};
+
+enum {
+    TZ_ROUTES = 128,    /* most routes */
+    TZ_PROTECTED_IDS = 32,  /* most protected ids */
+    TZ_ROWS = 32,       /* most fault rows */
+    TZ_ROW_ARGS = 16,   /* argument places of a fault row */
+    TZ_ROOM = 260,      /* output room that a step asks for */
+    TZ_REPLY = 266      /* output room that an event of a replay asks for: six bytes of numbers and a step's room */
+};
+
+/* ---- the state ---- */
+
+/* The configuration. It comes from tz_load and is only ever read. Places that are not in use are 0. */
+typedef struct tz_config {
+    uint16_t ground;                            /* source number of the ground */
+    uint16_t fault;                             /* source number of fault responses */
+    uint16_t base;                              /* own ids are base to base + 7 */
+    size_t nroutes;                             /* routes in use */
+    uint16_t routeids[TZ_ROUTES];               /* command ids, rising */
+    uint8_t dests[TZ_ROUTES];                   /* destination of each, 1 to 31 */
+    size_t nprotected;                          /* protected ids in use */
+    uint16_t protected_ids[TZ_PROTECTED_IDS];   /* rising */
+    size_t nrows;                               /* fault rows in use */
+    uint16_t faultids[TZ_ROWS];                 /* rising */
+    uint16_t responses[TZ_ROWS];                /* response command id of each */
+    uint8_t latching[TZ_ROWS];                  /* 0 or 1 */
+    uint8_t argcounts[TZ_ROWS];                 /* argument bytes in use, 0 to 16 */
+    uint8_t args[TZ_ROWS * TZ_ROW_ARGS];        /* argument j of row k at k * 16 + j */
+} tz_config;
+
+/* The seven counters, each modulo 65,536. */
+typedef struct tz_counts {
+    uint16_t a;     /* accepted packets */
+    uint16_t r;     /* rejected packets */
+    uint16_t d;     /* commands dispatched */
+    uint16_t p;     /* protected commands stopped */
+    uint16_t u;     /* ids neither own nor routed */
+    uint16_t i;     /* own commands refused */
+    uint16_t f;     /* faults */
+} tz_counts;
+
+/*
+ * The run: what steps change. `armed` is 0 or 1. Any other number breaks the state's rules: such a call answers 20 and hands
+ * the run back as it came. A run from elsewhere, or one that was damaged, is judged by each step in the same way.
+ */
+typedef struct tz_run {
+    uint8_t armed;
+    uint16_t ticks;             /* ticks that remain, 0 where the timeout is 0 */
+    tz_counts counts;
+    uint8_t states[TZ_ROWS];    /* 0 disabled, 1 enabled, 2 latched */
+} tz_run;
+
+/* ---- what the functions hand back ---- */
+
+/* The judge: 0 with command id and argument count, or the first refusal and zeros. */
+typedef struct tz_judged {
+    uint8_t answer;
+    uint16_t id;
+    uint8_t count;
+} tz_judged;
+
+/* A part of the caller's packet. */
+typedef struct tz_part {
+    size_t offset;
+    size_t length;
+} tz_part;
+
+/* Loading: 0 and offset 0 with the state, or the refusal and the offset of the first bad record with a state all zero. */
+typedef struct tz_loaded {
+    uint8_t answer;
+    size_t offset;
+    tz_config config;
+    tz_run run;
+} tz_loaded;
+
+/* The four numbers of an answer. The id is set for 10, 11, 12 and 30 to 33, destination and bytes written for 10 only. */
+typedef struct tz_answer {
+    uint8_t answer;
+    uint16_t id;
+    uint8_t dest;
+    uint16_t written;
+} tz_answer;
+
+/* A step: the run that it left, and its answer. */
+typedef struct tz_stepped {
+    tz_run run;
+    tz_answer answer;
+} tz_stepped;
+
+/*
+ * A piece of a recording. `stop` is 0 where all of it was read, 1, 2 or 3 at the first bad record (cut, of another kind, of
+ * wrong length), 20 where the state breaks its rules, 21 where less than 266 bytes of the output were left.
+ */
+typedef struct tz_piece {
+    tz_run run;
+    uint8_t stop;
+    size_t read;    /* bytes of the recording that were read; the bad record begins there */
+    size_t count;   /* events that were answered */
+    size_t wrote;   /* bytes of the output that were written */
+} tz_piece;
+
+/* A recording under an image: the load's answer and offset, then as in tz_piece, and the counters behind the last answer. */
+typedef struct tz_replayed {
+    uint8_t load;
+    size_t offset;
+    uint8_t stop;
+    size_t read;
+    size_t count;
+    size_t wrote;
+    tz_counts counts;
+} tz_replayed;
+
+/* ---- the functions ---- */
+
+/* Judges a packet by itself. */
+tz_judged tz_judge(const uint8_t *packet, size_t length);
+
+/* Where the arguments of a packet stand: offset 10 and their number, or 0 and 0 for a packet that the judge refuses. */
+tz_part tz_arguments(const uint8_t *packet, size_t length);
+
+/* Loads a configuration image. */
+tz_loaded tz_load(const uint8_t *image, size_t length);
+
+/*
+ * The steps. Output is written for answer 10 only, from its start: source and command id (big-endian, two bytes each), argument
+ * count (one byte), arguments; later bytes stay. 260 bytes of room are asked for, whatever is written.
+ */
+tz_stepped tz_step_packet(tz_config config, tz_run run, const uint8_t *packet, size_t length, uint8_t *out, size_t room);
+tz_stepped tz_step_tick(tz_config config, tz_run run);
+tz_stepped tz_step_fault(tz_config config, tz_run run, uint16_t fault, uint8_t *out, size_t room);
+
+/*
+ * Replay. A recording is a run of records: body length and kind, two bytes each, little-endian, then the body; kind 16 is a
+ * packet, 17 a tick with no body, 18 a fault with its two-byte id, little-endian. For each event the output gets six bytes,
+ * answer, id (two bytes, little-endian), destination, bytes written (two bytes, little-endian), and then the bytes of its
+ * command, as a step writes them. The state is judged once.
+ */
+tz_piece tz_resume(tz_config config, tz_run run, const uint8_t *recording, size_t length, uint8_t *out, size_t room);
+tz_replayed tz_replay(const uint8_t *image, size_t image_length, const uint8_t *recording, size_t length, uint8_t *out, size_t room);
+
+#ifdef __cplusplus
+}
+#endif
+
+#endif

@@ -1,0 +1,167 @@
+/*
+ * The C boundary in use: document 01's session by steps and by replay, each refusal of the boundary's own (an armed byte that is
+ * no bool, a state from elsewhere, short room), and that no byte behind the written part changes. Prints a line for each check
+ * and ends with 1 if one failed.
+ */
+#include <stdio.h>
+#include <string.h>
+#include "tamezohishu.h"
+
+static int failed = 0;
+
+static void check(const char *what, int ok) {
+    printf("c boundary: %s: %s\n", what, ok ? "ok" : "not as expected");
+    if (!ok) failed = 1;
+}
+
+static const uint8_t c[42] = {6, 0, 1, 0, 1, 0, 2, 0, 100, 0, 3, 0, 2, 0, 10, 0, 1, 3, 0, 2, 0, 20, 0, 2,
+    2, 0, 3, 0, 20, 0, 8, 0, 4, 0, 7, 0, 10, 0, 1, 1, 1, 0xAA};
+static const uint8_t g[10] = {0x18, 1, 0xC0, 0, 0, 3, 0, 0xCE, 0, 0x14};
+static const uint8_t arm[11] = {0x18, 1, 0xC0, 0, 0, 4, 0, 0xBB, 0, 0x64, 2};
+static const uint8_t pad[12] = {0x18, 1, 0xC0, 0, 0, 5, 1, 0xD2, 0, 0x0A, 5, 0};
+
+/* the session of document 01: a packet, a tick or a fault, and the four numbers that it prints */
+enum { PACKET = 16, TICK = 17, FAULT = 18 };
+static const struct event {
+    int kind;
+    const uint8_t *packet;
+    size_t length;
+    uint16_t fault;
+    tz_answer want;
+} session[12] = {
+    {PACKET, g, sizeof g, 0, {30, 20, 0, 0}},
+    {PACKET, arm, sizeof arm, 0, {11, 100, 0, 0}},
+    {TICK, NULL, 0, 0, {14, 0, 0, 0}},
+    {PACKET, g, sizeof g, 0, {10, 20, 2, 5}},
+    {PACKET, arm, sizeof arm, 0, {11, 100, 0, 0}},
+    {TICK, NULL, 0, 0, {14, 0, 0, 0}},
+    {TICK, NULL, 0, 0, {15, 0, 0, 0}},
+    {PACKET, g, sizeof g, 0, {30, 20, 0, 0}},
+    {PACKET, pad, sizeof pad, 0, {10, 10, 1, 6}},
+    {FAULT, NULL, 0, 7, {10, 10, 1, 6}},
+    {FAULT, NULL, 0, 7, {13, 0, 0, 0}},
+    {FAULT, NULL, 0, 8, {34, 0, 0, 0}},
+};
+
+static int same(tz_answer a, tz_answer b) {
+    return a.answer == b.answer && a.id == b.id && a.dest == b.dest && a.written == b.written;
+}
+
+static int is_bare(tz_answer a, uint8_t n) {
+    tz_answer want = {n, 0, 0, 0};
+    return same(a, want);
+}
+
+static int same_run(const tz_run *a, const tz_run *b) {
+    return a->armed == b->armed && a->ticks == b->ticks && memcmp(&a->counts, &b->counts, sizeof a->counts) == 0
+        && memcmp(a->states, b->states, sizeof a->states) == 0;
+}
+
+/* whether all of n bytes are still v */
+static int still(const uint8_t *bytes, size_t n, uint8_t v) {
+    for (size_t k = 0; k < n; k++) if (bytes[k] != v) return 0;
+    return 1;
+}
+
+static tz_stepped step(tz_config config, tz_run run, const struct event *e, uint8_t *out, size_t room) {
+    if (e->kind == PACKET) return tz_step_packet(config, run, e->packet, e->length, out, room);
+    if (e->kind == TICK) return tz_step_tick(config, run);
+    return tz_step_fault(config, run, e->fault, out, room);
+}
+
+int main(void) {
+    uint8_t out[512];
+    tz_loaded l = tz_load(c, sizeof c);
+    check("configuration C loads", l.answer == TZ_LOADED && l.offset == 0 && l.config.nroutes == 2 && l.config.nprotected == 1
+        && l.config.nrows == 1 && l.config.base == 100 && l.config.dests[1] == 2 && l.config.protected_ids[0] == 20
+        && l.config.args[0] == 0xAA && l.run.armed == 0 && l.run.states[0] == 1);
+
+    /* the session, step by step */
+    uint8_t recording[512];
+    size_t end = 0;
+    int all = 1, untouched = 1, sent = 1;
+    tz_run run = l.run;
+    for (size_t k = 0; k < 12; k++) {
+        memset(out, 0x5A, sizeof out);
+        tz_stepped s = step(l.config, run, &session[k], out, TZ_ROOM);
+        all &= same(s.answer, session[k].want);
+        untouched &= still(out + s.answer.written, sizeof out - s.answer.written, 0x5A);
+        if (k == 8) sent &= memcmp(out, "\x00\x01\x00\x0A\x01\x05", 6) == 0;
+        if (k == 9) sent &= memcmp(out, "\x00\x02\x00\x0A\x01\xAA", 6) == 0;
+        run = s.run;
+        size_t size = session[k].kind == PACKET ? session[k].length : session[k].kind == FAULT ? 2 : 0;
+        recording[end++] = (uint8_t)size;
+        recording[end++] = 0;
+        recording[end++] = (uint8_t)session[k].kind;
+        recording[end++] = 0;
+        if (session[k].kind == PACKET) memcpy(recording + end, session[k].packet, size);
+        if (session[k].kind == FAULT) {
+            recording[end] = (uint8_t)session[k].fault;
+            recording[end + 1] = 0;
+        }
+        end += size;
+    }
+    check("the session's answers", all);
+    check("the commands of PAD and fault 7", sent);
+    check("bytes behind the written part stay", untouched);
+    check("the counters", run.counts.a == 6 && run.counts.r == 0 && run.counts.d == 3 && run.counts.p == 2
+        && run.counts.u == 0 && run.counts.i == 0 && run.counts.f == 3);
+
+    /* the same session as a recording */
+    static uint8_t replies[12 * TZ_REPLY + 40];
+    memset(replies, 0x5A, sizeof replies);
+    tz_replayed r = tz_replay(c, sizeof c, recording, end, replies, sizeof replies);
+    int told = r.load == 0 && r.offset == 0 && r.stop == 0 && r.read == end && r.count == 12
+        && memcmp(&r.counts, &run.counts, sizeof run.counts) == 0;
+    size_t at = 0;
+    for (size_t k = 0; k < 12; k++) {
+        tz_answer a = {replies[at], (uint16_t)(replies[at + 1] + 256 * replies[at + 2]), replies[at + 3],
+            (uint16_t)(replies[at + 4] + 256 * replies[at + 5])};
+        told &= same(a, session[k].want);
+        at += 6 + a.written;
+    }
+    check("the recording's answers", told && at == r.wrote && still(replies + at, sizeof replies - at, 0x5A));
+
+    /* in two pieces, the second from where the first stopped */
+    tz_piece first = tz_resume(l.config, l.run, recording, 40, replies, sizeof replies);
+    tz_piece second = tz_resume(l.config, first.run, recording + first.read, end - first.read, replies, sizeof replies);
+    check("the recording in two pieces", first.stop == TZ_PAST_END && first.count + second.count == 12 && second.stop == 0
+        && same_run(&second.run, &run));
+    memset(replies, 0x5A, sizeof replies);
+    first = tz_resume(l.config, l.run, recording, end, replies, TZ_REPLY - 1);
+    check("too little room for one event", first.stop == TZ_NO_ROOM && first.read == 0 && first.count == 0 && first.wrote == 0
+        && same_run(&first.run, &l.run) && still(replies, sizeof replies, 0x5A));
+    r = tz_replay(c, 41, recording, end, replies, sizeof replies);
+    check("a refused image", r.load == TZ_PAST_END && r.offset == 30 && r.stop == 0 && r.read == 0 && r.count == 0
+        && r.wrote == 0 && still(replies, sizeof replies, 0x5A));
+
+    /* the judge and the enquiry */
+    tz_judged j = tz_judge(pad, sizeof pad);
+    tz_part part = tz_arguments(pad, sizeof pad);
+    check("PAD judged", j.answer == 0 && j.id == 10 && j.count == 1 && part.offset == 10 && part.length == 1);
+    j = tz_judge(g, 9);
+    part = tz_arguments(g, 9);
+    check("G short", j.answer == TZ_BAD_SIZE && j.id == 0 && j.count == 0 && part.offset == 0 && part.length == 0);
+    check("nothing at all", tz_judge(g, 0).answer == TZ_SHORT && tz_load(c, 0).answer == TZ_EMPTY);
+
+    /* what the boundary itself refuses */
+    memset(out, 0x5A, sizeof out);
+    tz_run bad = l.run;
+    bad.armed = 2;
+    tz_stepped s = tz_step_packet(l.config, bad, pad, sizeof pad, out, sizeof out);
+    int kept = is_bare(s.answer, TZ_BAD_STATE) && same_run(&s.run, &bad);
+    s = tz_step_fault(l.config, bad, 7, out, sizeof out);
+    kept &= is_bare(s.answer, TZ_BAD_STATE) && same_run(&s.run, &bad);
+    s = tz_step_tick(l.config, bad);
+    kept &= is_bare(s.answer, TZ_BAD_STATE) && same_run(&s.run, &bad);
+    first = tz_resume(l.config, bad, recording, end, out, sizeof out);
+    kept &= first.stop == TZ_BAD_STATE && first.read == 0 && same_run(&first.run, &bad);
+    check("an armed byte that is no bool", kept && still(out, sizeof out, 0x5A));
+    tz_config wild = l.config;
+    wild.nroutes = (size_t)-1;
+    s = tz_step_packet(wild, l.run, pad, sizeof pad, out, sizeof out);
+    check("a configuration from elsewhere", is_bare(s.answer, TZ_BAD_STATE) && same_run(&s.run, &l.run));
+    s = tz_step_packet(l.config, l.run, pad, sizeof pad, out, TZ_ROOM - 1);
+    check("room 259", is_bare(s.answer, TZ_NO_ROOM) && same_run(&s.run, &l.run) && still(out, sizeof out, 0x5A));
+    return failed;
+}
