@@ -2,11 +2,13 @@
 # made-up input. Works from a fresh clone, standing anywhere; bin/cargo says what it needs where something is missing.
 set -eu
 cd "$(dirname "$0")/.."
+. bin/x86
+x86_tools || exit 1
 room=$(mktemp -d)
 trap 'rm -rf "$room"' EXIT
 failed=0
 
-# quiet NAME COMMAND..: runs it; its output is shown only where it fails
+# quiet NAME COMMAND..: runs it; what it prints is shown only where it fails
 quiet() {
     name=$1
     shift
@@ -19,26 +21,14 @@ quiet() {
     fi
 }
 
-# The archive is made anew, so that what is tested is what stands in the repository.
+# The archive is made from what stands in the repository.
 if [ -d crates/export ]; then
-    quiet "the proved library" rt staticlib export
+    rt staticlib export >"$room/log" 2>&1 || { cat "$room/log" >&2; exit 1; }
 fi
 [ -f target/staticlib/libexport.a ] || { echo "rust: there is no target/staticlib/libexport.a to test" >&2; exit 1; }
 
 # The C header has the sizes and places that the safe crate has.
-compiler=
-if [ "$(uname -m)" = x86_64 ]; then
-    compiler=$(command -v cc || command -v gcc || true)
-else
-    # This installs what is missing, the compiler too.
-    bin/cargo --version >/dev/null
-    compiler=$(command -v x86_64-linux-gnu-gcc || true)
-fi
-if [ -z "$compiler" ]; then
-    echo "rust: the header's layout: not compared, there is no C compiler"
-else
-    quiet "the header's layout" "$compiler" -std=c11 -Wall -Wextra -Werror -fsyntax-only rust/tamezohishu/tests/layout.c
-fi
+quiet "the header's layout" "$X86_CC" -std=c11 -Wall -Wextra -Werror -fsyntax-only rust/tamezohishu/tests/layout.c
 
 quiet "tests of every crate" bin/cargo test --workspace --locked
 
@@ -58,10 +48,12 @@ cat >"$room/paper" <<'LINES'
 13 0 0 0
 34 0 0 0
 LINES
-session() {
-    bin/cargo run -q --locked --release -p tamezohishu --example session >"$room/session" && cmp "$room/paper" "$room/session"
-}
-quiet "the session of document 01" session
+if bin/cargo run -q --locked --release -p tamezohishu --example session >"$room/session" && cmp "$room/paper" "$room/session"; then
+    echo "rust: the session of document 01: ok"
+else
+    echo "rust: the session of document 01: failed" >&2
+    failed=1
+fi
 
 # The proved library beside the reading. Its table is shown.
 if bin/cargo run -q --locked --release -p differential >"$room/log" 2>&1; then
