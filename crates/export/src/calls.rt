@@ -1,12 +1,12 @@
 // The functions that C calls. A slice is a pointer and a length there. Each takes any bytes, any configuration and any run.
-use crate::types;
-use crate::types::Loading;
-use crate::types::Part;
-use crate::types::Portion;
-use crate::types::Saved;
-use crate::types::Stepping;
+use boundary::types;
+use boundary::types::Loading;
+use boundary::types::Part;
+use boundary::types::Portion;
+use boundary::types::Saved;
+use boundary::types::Stepping;
 use packet::judge::Judged;
-use replay::types::Replayed;
+use replayrules::types::Replayed;
 use state::types::Config;
 ghost use mathlib.Core.Path.{_≡_};
 ghost use lib.ListN.{length};
@@ -14,8 +14,8 @@ ghost use Rattle.packetrules.specs.Judge.{judgeOf};
 ghost use Rattle.state.specs.Tables.{tablesOf};
 ghost use Rattle.dispatch.specs.Dispatch.{over};
 ghost use Rattle.steprules.specs.Step.{packetOutput, faultOutput};
-ghost use Rattle.replay.specs.Replay.{replayOf, replayBytes};
-ghost use Rattle.export.specs.Boundary.{partOf, loadingOf, packetCall, tickCall, faultCall, resumeCall, resumeBytes};
+ghost use Rattle.replayrules.specs.Replay.{replayOf, replayBytes};
+ghost use Rattle.boundary.specs.Boundary.{partOf, loadingOf, packetCall, tickCall, faultCall, resumeCall, resumeBytes};
 
 // The judge by itself.
 #[no_mangle]

@@ -1,4 +1,2 @@
 // Replay: an image and a recording of events in bytes in, the answers in bytes out.
-pub mod recording;
 pub mod replay;
-pub mod types;

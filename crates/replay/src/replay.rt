@@ -1,7 +1,7 @@
 // Replay of a recording: the state is judged once, and each event costs one inner step.
-use crate::recording;
-use crate::types::Piece;
-use crate::types::Replayed;
+use replayrules::recording;
+use replayrules::types::Piece;
+use replayrules::types::Replayed;
 use state::types::Config;
 use state::types::Counts;
 use state::types::Run;
@@ -11,8 +11,8 @@ ghost use Rattle.state.specs.Tables.{tablesOf};
 ghost use Rattle.state.specs.Keeps.{Keeps};
 ghost use Rattle.dispatch.specs.Dispatch.{over};
 ghost use Rattle.records.specs.Records.{recordsOf};
-ghost use Rattle.replay.specs.Recording.{flat};
-ghost use Rattle.replay.specs.Replay.{stoppedAt, piece, pathReplies, pieceOf, pieceBytes, replayOf, replayBytes};
+ghost use Rattle.replayrules.specs.Recording.{flat};
+ghost use Rattle.replayrules.specs.Replay.{stoppedAt, piece, pathReplies, pieceOf, pieceBytes, replayOf, replayBytes};
 
 // What a replay that stops here came to.
 fn stopped(run: Run, stop: u8, read: usize, count: usize, wrote: usize) -> Piece

@@ -1,7 +1,7 @@
 -- `tz_resume`: an armed number that is neither 0 nor 1, or the piece handed out.
 use mathlib.Core.Path.{_≡_, _∙_}
 use borrow.Author.Needs.{needs}
-use Rattle.export.specs.BoundaryLaws.{resume-untold, resume-told}
+use Rattle.boundary.specs.BoundaryLaws.{resume-untold, resume-told}
 use Rattle.export.proofs.calls.tz_resume.Statement.{statement}
 use Rattle.export.proofs.calls.tz_resume.Tie as tie
 

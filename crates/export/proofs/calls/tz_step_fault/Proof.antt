@@ -2,8 +2,8 @@
 use mathlib.Core.Path.{_≡_, refl, ap, _∙_}
 use borrow.Author.Needs.{needs}
 use Rattle.steprules.specs.FaultStepLaws.{fault-unsent}
-use Rattle.export.specs.declared.types.Stepping.{Stepping}
-use Rattle.export.specs.BoundaryLaws.{fault-untold, fault-told, fault-output}
+use Rattle.boundary.specs.declared.types.Stepping.{Stepping}
+use Rattle.boundary.specs.BoundaryLaws.{fault-untold, fault-told, fault-output}
 use Rattle.export.proofs.calls.tz_step_fault.Statement.{statement}
 use Rattle.export.proofs.calls.tz_step_fault.Tie as tie
 

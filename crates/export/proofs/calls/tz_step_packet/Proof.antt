@@ -2,8 +2,8 @@
 use mathlib.Core.Path.{_≡_, refl, ap, _∙_}
 use borrow.Author.Needs.{needs}
 use Rattle.steprules.specs.StepLaws.{packet-unsent}
-use Rattle.export.specs.declared.types.Stepping.{Stepping}
-use Rattle.export.specs.BoundaryLaws.{packet-untold, packet-told, packet-output}
+use Rattle.boundary.specs.declared.types.Stepping.{Stepping}
+use Rattle.boundary.specs.BoundaryLaws.{packet-untold, packet-told, packet-output}
 use Rattle.export.proofs.calls.tz_step_packet.Statement.{statement}
 use Rattle.export.proofs.calls.tz_step_packet.Tie as tie
 

@@ -1,6 +1,6 @@
 -- `tz_step_tick`: an armed number that is neither 0 nor 1, or the step handed out.
 use mathlib.Core.Path.{_≡_, _∙_}
-use Rattle.export.specs.BoundaryLaws.{tick-untold, tick-told}
+use Rattle.boundary.specs.BoundaryLaws.{tick-untold, tick-told}
 use Rattle.export.proofs.calls.tz_step_tick.Statement.{statement}
 use Rattle.export.proofs.calls.tz_step_tick.Tie as tie
 

@@ -4,7 +4,7 @@ use borrow.Author.Needs.{needs}
 use Rattle.image.specs.declared.types.Loaded.{Loaded}
 use Rattle.image.specs.Theorems.{loaded-keeps}
 use Rattle.state.specs.KeepsLaws as state
-use Rattle.replay.specs.ReplayLaws.{refused, loaded}
+use Rattle.replayrules.specs.ReplayLaws.{refused, loaded}
 use Rattle.replay.proofs.replay.replay.Statement.{statement}
 use Rattle.replay.proofs.replay.replay.Tie as tie
 

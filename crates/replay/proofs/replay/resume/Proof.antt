@@ -5,7 +5,7 @@ use borrow.Author.Needs.{needs}
 use borrow.Author.Tests.{not-true, not-false}
 use Rattle.state.specs.Test.{keepsRules}
 use Rattle.state.specs.KeepsLaws as state
-use Rattle.replay.specs.ReplayLaws.{breaks, keeps}
+use Rattle.replayrules.specs.ReplayLaws.{breaks, keeps}
 use Rattle.replay.proofs.replay.resume.Statement.{statement}
 use Rattle.replay.proofs.replay.resume.Tie as tie
 

@@ -2,10 +2,10 @@
 use mathlib.Core.Path.{_≡_, ap}
 use Prim.Native.Nat.{ℕ}
 use borrow.Author.Needs.{needs}
-use Rattle.export.specs.declared.types.Saved.{Saved}
-use Rattle.export.specs.BoundaryLaws.{byte-is}
-use Rattle.export.proofs.types.run_out.Statement.{statement}
-use Rattle.export.proofs.types.run_out.Tie as tie
+use Rattle.boundary.specs.declared.types.Saved.{Saved}
+use Rattle.boundary.specs.BoundaryLaws.{byte-is}
+use Rattle.boundary.proofs.types.run_out.Statement.{statement}
+use Rattle.boundary.proofs.types.run_out.Tie as tie
 
 pub run-out-spec : {M : Type 1} → statement M
 run-out-spec =

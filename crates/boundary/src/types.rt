@@ -7,7 +7,7 @@ use state::types::Run;
 use steprules::types::Answer;
 use steprules::types::Stepped;
 ghost use mathlib.Core.Path.{_≡_};
-ghost use Rattle.export.specs.Boundary.{inward, outward, handed, refusedCall};
+ghost use Rattle.boundary.specs.Boundary.{inward, outward, handed, refusedCall};
 
 // A run as C keeps it: armed is 0 or 1, and a state with any other number breaks its rules.
 #[repr(C)]

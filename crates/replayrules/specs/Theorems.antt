@@ -19,8 +19,8 @@ use Rattle.image.specs.Image.{loadOf}
 use Rattle.image.specs.Theorems.{loads-good}
 use Rattle.history.specs.Plain.{Event, packet, tick, fault, Reply, bare, dispatched, rowOf, rowNamed, rows, accepted, packetAnswer, packetReply, faultAnswer, stateOf, reply, replies}
 use Rattle.history.specs.Path.{step, replyOf, run, after}
-use Rattle.replay.specs.Recording.{eventsOf, replyBytes, fitting}
-use Rattle.replay.specs.Replay.{plainReplies}
+use Rattle.replayrules.specs.Recording.{eventsOf, replyBytes, fitting}
+use Rattle.replayrules.specs.Replay.{plainReplies}
 
 -- ---- the answers that find room
 

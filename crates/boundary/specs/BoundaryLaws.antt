@@ -14,11 +14,11 @@ use Rattle.state.specs.Tables.{Tables, tablesOf}
 use Rattle.dispatch.specs.Dispatch.{over}
 use Rattle.steprules.specs.declared.types.Stepped.{Stepped}
 use Rattle.steprules.specs.Step.{packetStepOf, packetOutput, tickStepOf, faultStepOf, faultOutput}
-use Rattle.replay.specs.declared.types.Piece.{Piece}
-use Rattle.replay.specs.Replay.{pieceOf, pieceBytes}
-use Rattle.export.specs.declared.types.Saved.{Saved}
-use Rattle.export.specs.declared.types.Stepping.{Stepping}
-use Rattle.export.specs.Boundary.{inward, told, partOf, handed, refusedCall, packetCall, tickCall, faultCall, portion, idlePortion, resumeCall, resumeBytes}
+use Rattle.replayrules.specs.declared.types.Piece.{Piece}
+use Rattle.replayrules.specs.Replay.{pieceOf, pieceBytes}
+use Rattle.boundary.specs.declared.types.Saved.{Saved}
+use Rattle.boundary.specs.declared.types.Stepping.{Stepping}
+use Rattle.boundary.specs.Boundary.{inward, told, partOf, handed, refusedCall, packetCall, tickCall, faultCall, portion, idlePortion, resumeCall, resumeBytes}
 
 pub byte-is : (b : Bool) → boolByte b ≡ cond b 1 0
 byte-is true = refl

@@ -1,7 +1,7 @@
 -- `refusal`: each return is a line of the table `Sort`.
-use Rattle.replay.specs.RecordingLaws.{is-packet, is-tick, is-fault, long-tick, bad-fault, other, only}
-use Rattle.replay.proofs.recording.refusal.Statement.{statement}
-use Rattle.replay.proofs.recording.refusal.Tie as tie
+use Rattle.replayrules.specs.RecordingLaws.{is-packet, is-tick, is-fault, long-tick, bad-fault, other, only}
+use Rattle.replayrules.proofs.recording.refusal.Statement.{statement}
+use Rattle.replayrules.proofs.recording.refusal.Tie as tie
 
 pub refusal-spec : {M : Type 1} → statement M
 refusal-spec =

@@ -6,7 +6,7 @@ ghost use mathlib.Core.Path.{_≡_};
 ghost use Prim.Native.Nat.{_+_, _≤_};
 ghost use lib.ListN.{length};
 ghost use Rattle.wire.specs.Put.{putAt};
-ghost use Rattle.replay.specs.Recording.{kindRefusal, headBytes};
+ghost use Rattle.replayrules.specs.Recording.{kindRefusal, headBytes};
 
 // What refuses a whole record: 2 its kind, 3 the length of its body; 0 nothing.
 pub fn refusal(kind: u16, size: usize) -> u8

@@ -14,9 +14,9 @@ use Rattle.image.specs.Image.{loadOf}
 use Rattle.history.specs.Plain.{Event, Reply, replies, latestFirst}
 use Rattle.history.specs.Path.{run, after}
 use Rattle.history.specs.Known.{knownCounts}
-use Rattle.replay.specs.declared.types.Piece.{Piece}
-use Rattle.replay.specs.declared.types.Replayed.{Replayed}
-use Rattle.replay.specs.Recording.{eventsOf, firstRefusal, bytesIn, flat, fitting}
+use Rattle.replayrules.specs.declared.types.Piece.{Piece}
+use Rattle.replayrules.specs.declared.types.Replayed.{Replayed}
+use Rattle.replayrules.specs.Recording.{eventsOf, firstRefusal, bytesIn, flat, fitting}
 
 -- why the reading stopped, once these replies were given: 21 where an event is left, else what refuses the first bad record
 abbrev pub stopOf : List Reply → List Record → ℕ

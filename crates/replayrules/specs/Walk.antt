@@ -21,11 +21,11 @@ use Rattle.steprules.specs.declared.types.Stepped.{Stepped}
 use Rattle.history.specs.Plain.{Event, Reply}
 use Rattle.history.specs.Path.{step, bytesFor, replyOf, after}
 use Rattle.history.specs.Calls.{EventBytes, step-keeps}
-use Rattle.replay.specs.declared.types.Piece.{Piece}
-use Rattle.replay.specs.Recording.{eventIn, eventRefusal, kindRefusal, eventsOf, firstRefusal, bytesIn, headBytes, replyBytes, flat, fitting}
-use Rattle.replay.specs.Replay.{stopOf, answered, pathReplies, piece}
-use Rattle.replay.specs.OutputLaws.{backAs, partFrom, part-is, reply-put, answer-put}
-use Rattle.replay.specs.PathLaws.{written-is}
+use Rattle.replayrules.specs.declared.types.Piece.{Piece}
+use Rattle.replayrules.specs.Recording.{eventIn, eventRefusal, kindRefusal, eventsOf, firstRefusal, bytesIn, headBytes, replyBytes, flat, fitting}
+use Rattle.replayrules.specs.Replay.{stopOf, answered, pathReplies, piece}
+use Rattle.replayrules.specs.OutputLaws.{backAs, partFrom, part-is, reply-put, answer-put}
+use Rattle.replayrules.specs.PathLaws.{written-is}
 
 -- ---- the piece that the rest of a recording makes of what was done before
 

@@ -1,8 +1,8 @@
 -- `put_numbers`: the six bytes, each by its callee's word.
 use mathlib.Core.Path.{refl, _∙_}
 use borrow.Author.Needs.{needs}
-use Rattle.replay.proofs.recording.put_numbers.Statement.{statement}
-use Rattle.replay.proofs.recording.put_numbers.Tie as tie
+use Rattle.replayrules.proofs.recording.put_numbers.Statement.{statement}
+use Rattle.replayrules.proofs.recording.put_numbers.Tie as tie
 
 pub put-numbers-spec : {M : Type 1} → statement M
 put-numbers-spec =

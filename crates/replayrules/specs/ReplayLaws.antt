@@ -18,10 +18,10 @@ use Rattle.history.specs.Plain.{Reply, latestFirst}
 use Rattle.history.specs.Path.{after}
 use Rattle.history.specs.Known.{knownCounts}
 use Rattle.history.specs.Agree.{agree, counters}
-use Rattle.replay.specs.declared.types.Piece.{Piece}
-use Rattle.replay.specs.declared.types.Replayed.{Replayed}
-use Rattle.replay.specs.Recording.{eventsOf, flat, fitting}
-use Rattle.replay.specs.Replay.{answered, pathReplies, piece, idle, pieceOf, pieceBytes, plainReplies, replayed, unloaded, replayOf, replayBytes}
+use Rattle.replayrules.specs.declared.types.Piece.{Piece}
+use Rattle.replayrules.specs.declared.types.Replayed.{Replayed}
+use Rattle.replayrules.specs.Recording.{eventsOf, flat, fitting}
+use Rattle.replayrules.specs.Replay.{answered, pathReplies, piece, idle, pieceOf, pieceBytes, plainReplies, replayed, unloaded, replayOf, replayBytes}
 
 -- ---- a piece behind any state
 

@@ -11,7 +11,7 @@ use borrow.Author.Tests.{eq-eqb, ne-eqb, eqb-true, eqb-false, leb-true, ltb-true
 use Rattle.steprules.specs.RulesKept.{Bytes}
 use Rattle.records.specs.Records.{le16, Record}
 use Rattle.history.specs.Plain.{packet, tick, fault}
-use Rattle.replay.specs.Recording.{eventIn, kindRefusal}
+use Rattle.replayrules.specs.Recording.{eventIn, kindRefusal}
 
 -- a record of this kind and body length, and its refusal
 pub data Sort (kind size : ℕ) : ℕ → Type 0 where
