@@ -6,6 +6,7 @@
 use differential::dice::Dice;
 use differential::parts::{Part, PARTS};
 use differential::tally::Tally;
+use std::panic::{catch_unwind, AssertUnwindSafe};
 use std::process::ExitCode;
 use std::time::Instant;
 
@@ -47,7 +48,7 @@ fn wanted(mut words: impl Iterator<Item = String>) -> Result<Wanted, String> {
     Ok(wanted)
 }
 
-/// Runs the cases of a part, up to the first difference. Gives how many there were, and whether they agreed.
+/// Runs the cases of a part, up to the first difference. Whether they agreed.
 fn run(part: &Part, place: usize, wanted: &Wanted, tally: &mut Tally) -> bool {
     let cases = match wanted.case {
         Some(case) => case..case + 1,
@@ -57,7 +58,10 @@ fn run(part: &Part, place: usize, wanted: &Wanted, tally: &mut Tally) -> bool {
     let number = cases.end - cases.start;
     for case in cases {
         let mut dice = Dice::new(wanted.seed, place as u64, case);
-        if let Err(told) = (part.case)(&mut dice, tally) {
+        // A panic, of the reading or here, is a difference too, and is told with its case.
+        let case_of = AssertUnwindSafe(|| (part.case)(&mut dice, tally));
+        let told = catch_unwind(case_of).unwrap_or_else(|_| Err("panicked".to_string()));
+        if let Err(told) = told {
             let (name, seed) = (part.name, wanted.seed);
             let seconds = began.elapsed().as_secs_f64();
             println!("{name}: case {case} of seed {seed} differs ({seconds:.1} s)\n{told}");

@@ -27,7 +27,7 @@ pub fn judge(packet: &[u8]) -> Result<Command<'_>, Outcome> {
     if packet[0] & 0x08 == 0 {
         return Err(Outcome::NoSecondary);
     }
-    if packet.iter().fold(0, |xor, byte| xor ^ byte) != 0 {
+    if xor(packet) != 0 {
         return Err(Outcome::BadXor);
     }
     let pads = usize::from(packet[6] & 0x7F);
@@ -43,6 +43,16 @@ pub fn judge(packet: &[u8]) -> Result<Command<'_>, Outcome> {
         id: u16::from_be_bytes([packet[8], packet[9]]),
         arguments,
     })
+}
+
+/// The XOR of all bytes, eight at a time: the compiler makes no wide loop of a fold over bytes here.
+fn xor(bytes: &[u8]) -> u8 {
+    let chunks = bytes.chunks_exact(8);
+    let rest = chunks.remainder().iter().fold(0, |xor, byte| xor ^ byte);
+    let word = chunks.fold(0, |xor, chunk| {
+        xor ^ chunk.try_into().map_or(0, u64::from_ne_bytes)
+    });
+    word.to_ne_bytes().iter().fold(rest, |xor, byte| xor ^ byte)
 }
 
 /// The argument part of a packet, or the empty part at its start.

@@ -2,11 +2,13 @@
 
 use crate::config::{Config, Run, PROTECTED_IDS, ROUTES, ROWS};
 
+// Folds and not `all`: the compiler makes them wide, and there is nothing to gain from stopping early in a state that is good.
+
 fn rising(ids: &[u16]) -> bool {
-    ids.windows(2).all(|pair| pair[0] < pair[1])
+    let pairs = ids.iter().zip(ids.iter().skip(1));
+    pairs.fold(true, |good, (before, id)| good & (before < id))
 }
 
-/// By or, which the compiler makes wide: there is nothing to gain from stopping early in a state that is good.
 fn zero_16(places: &[u16]) -> bool {
     places.iter().fold(0, |sum, place| sum | place) == 0
 }
@@ -38,7 +40,10 @@ fn routes(config: &Config) -> bool {
     if ids.get(behind).is_some_and(|id| config.own(*id).is_some()) {
         return false;
     }
-    dests.iter().all(|dest| (1..=31).contains(dest)) && zero_16(unused) && zero_8(unused_dests)
+    let good_dests = dests
+        .iter()
+        .fold(true, |good, dest| good & (1..=31).contains(dest));
+    good_dests && zero_16(unused) && zero_8(unused_dests)
 }
 
 fn protected(config: &Config) -> bool {

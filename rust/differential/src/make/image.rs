@@ -309,12 +309,15 @@ fn broken_records(dice: &mut Dice) -> Vec<u8> {
         }
         7 => {
             let kind = u16::from(records[at][2]);
-            let length = dice.below(26);
+            // Lengths whose low byte is right for a kind, too.
+            let any = dice.below(26);
+            let length = dice.one(&[any, any, any, any, any, 256 + any, 65_280 + any, 65_535]);
             let mut body = dice.bytes(length);
             if kind == 4 && length > 6 {
                 // n right, or wrong by one, or above 16 with the body to it.
                 let right = (length - 7) as u8;
-                body[6] = dice.one(&[right, right, right.wrapping_sub(1), right + 1]);
+                let (less, more) = (right.wrapping_sub(1), right.wrapping_add(1));
+                body[6] = dice.one(&[right, right, less, more]);
             }
             records[at] = record(kind, &body);
         }

@@ -71,9 +71,9 @@ pub fn any(dice: &mut Dice, packet: &mut Vec<u8>) {
                 seal(packet);
             }
         }
-        // The longest that the length field can say, and one more.
+        // Long ones: the longest that a record holds, that the length field can say, and one more.
         220 => {
-            let n = dice.one(&[65_540, 65_541, 65_542, 65_543, 65_544]);
+            let n = dice.one(&[300, 1000, 65_535, 65_536, 65_541, 65_542, 65_543, 65_544]);
             packet.resize(n, 0);
             dice.fill(packet);
             packet[0] = 0x18;

@@ -21,15 +21,13 @@ pub fn good_run(dice: &mut Dice, config: &Config) -> Run {
     run
 }
 
-/// A place from `from` to `to`, the last one excluded, if there is any.
+/// A place from `from` up to the one before `to`, if there is any: the first, the last or any.
 fn place(dice: &mut Dice, from: usize, to: usize) -> Option<usize> {
-    let first = from;
-    let any = if from < to {
-        dice.from(from, to - 1)
-    } else {
+    if from >= to {
         return None;
-    };
-    Some(dice.one(&[first, to - 1, any]))
+    }
+    let any = dice.from(from, to - 1);
+    Some(dice.one(&[from, to - 1, any]))
 }
 
 /// Damages a good state in one place, by one of the ways of answer 20. `armed` is the byte at the boundary. A way that has no

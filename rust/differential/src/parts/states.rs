@@ -21,12 +21,12 @@ pub fn case(dice: &mut Dice, tally: &mut Tally) -> Result<(), String> {
     let mut armed = u8::from(run.armed);
     damage(dice, &mut config, &mut run, &mut armed);
 
-    let fault = event::any(dice, &good);
+    let any = event::any(dice, &good);
     let events = [
         Event::Packet(event::accepted(dice, &good)),
         Event::Tick,
         Event::Fault(good.faultids[0]),
-        fault,
+        any,
     ];
     let mut recording = Vec::new();
     for event in &events {
