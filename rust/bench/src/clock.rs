@@ -1,7 +1,22 @@
 //! How is measured: both sides in turn, in many short rounds, and of each side the least round. The least is the time with
 //! the fewest disturbances by other programs, and rounds in turn let a slow stretch of the machine meet both sides.
 
+use std::sync::OnceLock;
 use std::time::{Duration, Instant};
+
+/// What a run is for, where it is not for times: the names alone, or one side of one measurement so many times over, for
+/// whoever counts its instructions.
+pub enum Instead {
+    Names,
+    Run {
+        name: String,
+        proved: bool,
+        times: u32,
+    },
+}
+
+/// Set once, before anything is measured.
+pub static INSTEAD: OnceLock<Instead> = OnceLock::new();
 
 /// Rounds of each side.
 pub const ROUNDS: usize = 25;
@@ -52,6 +67,31 @@ pub fn side_by_side(
     mut proved: impl FnMut(),
     mut rust: impl FnMut(),
 ) -> Measured {
+    let name = name.into();
+    if let Some(instead) = INSTEAD.get() {
+        match instead {
+            Instead::Names => println!("{name} {units}"),
+            Instead::Run {
+                name: wanted,
+                proved: first,
+                times,
+            } if *wanted == name => {
+                for _ in 0..*times {
+                    if *first {
+                        proved();
+                    } else {
+                        rust();
+                    }
+                }
+            }
+            Instead::Run { .. } => {}
+        }
+        return Measured {
+            name,
+            proved: 0.0,
+            rust: 0.0,
+        };
+    }
     let (many, more) = (fits(&mut proved), fits(&mut rust));
     let (mut least_proved, mut least_rust) = (f64::INFINITY, f64::INFINITY);
     for _ in 0..ROUNDS {
@@ -59,7 +99,7 @@ pub fn side_by_side(
         least_rust = least_rust.min(round(&mut rust, more));
     }
     Measured {
-        name: name.into(),
+        name,
         proved: least_proved / units as f64,
         rust: least_rust / units as f64,
     }

@@ -2,7 +2,8 @@
 //!
 //! `bin/cargo run --release -p bench` measures both in one run and prints a line `ratio NAME VALUE` for each measurement, the
 //! proved library's time by the ordinary version's. `--write FILE` writes a page about it too; a file that is not absolute
-//! stands in the repository's root.
+//! stands in the repository's root. With `--instructions FILE` the page has the instructions that bin/instructions counted
+//! beside the times; it asks for them by `--names` and `--run`.
 //!
 //! [`clock`] says how is measured, [`work`] what the input is, [`measurements`] what is measured, [`page`] how it is told.
 
@@ -12,17 +13,43 @@ mod measurements;
 mod page;
 mod work;
 
+use clock::{Instead, INSTEAD};
 use std::path::PathBuf;
 use std::process::ExitCode;
 
+const USAGE: &str =
+    "usage: bench [--write FILE [--instructions FILE]] | --names | --run NAME proved|rust TIMES";
+
 fn main() -> ExitCode {
     let words: Vec<String> = std::env::args().skip(1).collect();
-    let file = match words.iter().map(String::as_str).collect::<Vec<_>>()[..] {
-        [] => None,
-        ["--write", file] => Some(file),
+    let words: Vec<&str> = words.iter().map(String::as_str).collect();
+    let (file, counts) = match words[..] {
+        [] => (None, None),
+        ["--write", file] => (Some(file), None),
+        ["--write", file, "--instructions", counts] => (Some(file), Some(counts)),
+        ["--names"] => return instead(Instead::Names),
+        ["--run", name, side @ ("proved" | "rust"), times] => {
+            let Ok(times) = times.parse() else {
+                eprintln!("{USAGE}");
+                return ExitCode::from(2);
+            };
+            return instead(Instead::Run {
+                name: name.to_string(),
+                proved: side == "proved",
+                times,
+            });
+        }
         _ => {
-            eprintln!("usage: bench [--write FILE]");
+            eprintln!("{USAGE}");
             return ExitCode::from(2);
+        }
+    };
+    let counts = match counts.map(|counts| std::fs::read_to_string(rooted(counts))) {
+        None => Vec::new(),
+        Some(Ok(text)) => page::counts(&text),
+        Some(Err(error)) => {
+            eprintln!("bench: the file of instructions: {error}");
+            return ExitCode::FAILURE;
         }
     };
     let machine = machine::Machine::here();
@@ -35,13 +62,24 @@ fn main() -> ExitCode {
         println!("ratio {} {:.2}", measured.name, measured.ratio());
     }
     if let Some(file) = file {
-        // Cargo tells where this package stands, and it runs programs from where it was started itself.
-        let root = std::env::var_os("CARGO_MANIFEST_DIR").map(PathBuf::from);
-        let path = root.unwrap_or_default().join("../..").join(file);
-        if let Err(error) = std::fs::write(&path, page::page(&machine, &sections)) {
+        if let Err(error) = std::fs::write(rooted(file), page::page(&machine, &sections, &counts)) {
             eprintln!("bench: {file}: {error}");
             return ExitCode::FAILURE;
         }
     }
     ExitCode::SUCCESS
+}
+
+/// No times: what is asked for instead.
+fn instead(what: Instead) -> ExitCode {
+    let _ = INSTEAD.set(what);
+    let _ = measurements::all();
+    ExitCode::SUCCESS
+}
+
+/// A file in the repository, unless it is absolute. Cargo tells where this package stands, and it runs programs from where it
+/// was started itself.
+fn rooted(file: &str) -> PathBuf {
+    let root = std::env::var_os("CARGO_MANIFEST_DIR").map(PathBuf::from);
+    root.unwrap_or_default().join("../..").join(file)
 }
