@@ -1,5 +1,6 @@
 # The two commands: `make demo` runs the step program on configuration C and its session, `make test` is the whole gate.
-.PHONY: demo test
+# Beside them `make bench` measures the proved library beside ordinary Rust and writes docs/BENCHMARKS.md.
+.PHONY: demo test bench
 
 demo:
 	@mkdir -p target
@@ -9,3 +10,9 @@ demo:
 
 test:
 	@bash .ci/run
+
+bench:
+	@mkdir -p target
+	@rt staticlib export > target/bench.log 2>&1 || { cat target/bench.log; exit 1; }
+	@bin/instructions > target/instructions
+	@bin/cargo run -q --locked --release -p bench -- --write docs/BENCHMARKS.md --instructions target/instructions

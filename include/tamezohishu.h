@@ -47,7 +47,7 @@ enum {
     TZ_BAD_TYPE = 25,           /* type not telecommand */
     TZ_NO_SECONDARY = 26,       /* no secondary header */
     TZ_BAD_XOR = 27,            /* XOR not zero */
-    TZ_NO_ARGUMENTS = 28,       /* data length - pads below 4 */
+    TZ_SHORT_DATA = 28,         /* data length - pads below 4 */
     TZ_TOO_LONG = 29,           /* more than 255 arguments */
     TZ_PROTECTED = 30,          /* protected and unarmed */
     TZ_BAD_COUNT = 31,          /* own command, wrong argument count */
@@ -146,7 +146,8 @@ typedef struct tz_stepped {
 
 /*
  * A piece of a recording. `stop` is 0 where all of it was read, 1, 2 or 3 at the first bad record (cut, of another kind, of
- * wrong length), 20 where the state breaks its rules, 21 where less than 266 bytes of the output were left.
+ * wrong length), 20 where the state breaks its rules, 21 where an event was left and less than 266 bytes of the output. The
+ * state is judged first, even for an empty recording; then each record before the room for its event.
  */
 typedef struct tz_piece {
     tz_run run;
@@ -156,7 +157,10 @@ typedef struct tz_piece {
     size_t wrote;   /* bytes of the output that were written */
 } tz_piece;
 
-/* A recording under an image: the load's answer and offset, then as in tz_piece, and the counters behind the last answer. */
+/*
+ * A recording under an image: the load's answer and offset, then as in tz_piece, and the counters behind the last answer. Where
+ * the image is refused all numbers behind the offset are 0, and nothing is written.
+ */
 typedef struct tz_replayed {
     uint8_t load;
     size_t offset;

@@ -68,6 +68,7 @@ pub fn page(machine: &Machine, sections: &[Section], counts: &[Count]) -> String
          version's.",
         ROUND.as_millis()
     );
+    let _ = write!(page, "\n{}", include_str!("../EXPLAINED.md"));
     for section in sections {
         let _ = writeln!(page, "\n## {}\n\n{}\n", section.title, section.about);
         let unit = section.unit;

@@ -10,6 +10,15 @@ use std::panic::{catch_unwind, AssertUnwindSafe};
 use std::process::ExitCode;
 use std::time::Instant;
 
+const HELP: &str = "\
+usage: differential [--seed N] [--packets N] [--images N] [--sessions N] [--states N] [--part NAME] [--case K]
+Compares the proved library with the independent reading on made-up input, says how often each answer and refusal was met, and
+ends with 1 if the two differ or a number was never met.
+  --seed N                  what the input is made from; the same seed makes the same input
+  --packets N, --images N, --sessions N, --states N   how many cases a part has
+  --part NAME               that part alone: packets, images, sessions or states
+  --case K                  that one case of each part that runs, and no table";
+
 struct Wanted {
     seed: u64,
     part: Option<String>,
@@ -75,6 +84,10 @@ fn run(part: &Part, place: usize, wanted: &Wanted, tally: &mut Tally) -> bool {
 }
 
 fn main() -> ExitCode {
+    if std::env::args().any(|word| word == "--help" || word == "-h") {
+        println!("{HELP}");
+        return ExitCode::SUCCESS;
+    }
     let wanted = match wanted(std::env::args().skip(1)) {
         Ok(wanted) => wanted,
         Err(told) => {
