@@ -18,7 +18,7 @@ known() { grep -qxF -e "$1" "$room/code" || grep -qxF -e "$1" "$room/defs"; }
 
 while IFS= read -r word; do
     case $word in
-    *[[:space:]]* | *'≡'* | *'('* | *=* | *NAME* | stdout | -* | '') continue ;;         # a statement quoted whole, or no name
+    *[[:space:]]* | *'≡'* | *'('* | *=* | *::* | *NAME* | //* | stdout | -* | '') continue ;;         # a statement quoted whole, or no name
     .ci/* | crates/* | docs/* | tests/* | include/* | examples/* | rust/* | bin/*)
         [ -e "${word%%:*}" ] || bad "$word is no file" ;;
     */*)

@@ -4,7 +4,7 @@ use mathlib.Core.List.{List, map}
 use Prim.Native.Nat.{ℕ}
 use lib.Dec.{eqb, ltb}
 use lib.ListN.{length}
-use Rattle.packetrules.specs.Judge.{check}
+use Rattle.wire.specs.Check.{check}
 use Rattle.state.specs.Tables.{FaultRow, Tables, faultId, routed}
 use Rattle.state.specs.Rules.{member}
 use Rattle.faultstates.specs.FaultStates.{enabled, stateFor}

@@ -1,20 +1,17 @@
 -- Laws of the own commands: which number an id has, what the numbers above 7 take, and each way to an answer.
 use mathlib.Core.Path.{_≡_, refl, sym}
-use mathlib.Core.Bool.{Bool, true, false, cond, not, _&&_, _||_, false≢true}
+use mathlib.Core.Bool.{Bool, true, false, cond, not, _&&_, _||_}
 use mathlib.Core.List.{List, [], _∷_}
 use Prim.Native.Nat.{ℕ, _+_, _-_, _≤_}
 use native.Mathlib.Omega.{arith}
 use lib.Dec.{leb, eqb}
 use lib.ListN.{length, List·getD-eq-default}
 use borrow.Author.Tests.{eq-eqb, ne-eqb, le-leb, lt-leb, leb-true}
-use Rattle.packetrules.specs.Judge.{check}
+use Rattle.wire.specs.Check.{check}
 use Rattle.state.specs.Rules.{own, member}
+use Rattle.state.specs.KeepsLaws.{both}
 use Rattle.answers.specs.Own.{ownNumber, argsWanted, onRow, faultArg}
 use Rattle.answers.specs.Answers.{ownAnswer}
-
-pub both : (a b : Bool) → (a && b) ≡ true → (a ≡ true) × (b ≡ true)
-both true b e = (refl, e)
-both false b e = absurd (false≢true e)
 
 -- ---- the number of an id
 

@@ -15,7 +15,7 @@ use Rattle.state.specs.declared.types.Run.{Run}
 use Rattle.state.specs.Tables.{faultId, routed, tablesOf}
 use Rattle.state.specs.Rules.{own, member}
 use Rattle.state.specs.Keeps.{Each, ProtectedOk, Rising}
-use Rattle.answers.specs.OwnLaws.{both}
+use Rattle.state.specs.KeepsLaws.{both}
 use Rattle.image.specs.Records.{Record, recordsOf}
 use Rattle.image.specs.Image.{ofKind, rowIn, tablesOfRecords, startsOfRecords, loadOf}
 use Rattle.image.specs.Theorems.{loads-good, loaded-tables, loaded-run}

@@ -8,13 +8,15 @@ use lib.Dec.{eqb, ltb, eqb·suc-zero}
 use lib.ListN.{length}
 use borrow.Author.Tests.{lt-ltb, ne-eqb}
 use Rattle.packetrules.specs.Layout.{commandId}
-use Rattle.packetrules.specs.Judge.{check, argumentsOf}
+use Rattle.wire.specs.Check.{check}
+use Rattle.packetrules.specs.Judge.{argumentsOf}
 use Rattle.state.specs.Tables.{Tables, faultId, routed}
 use Rattle.state.specs.Rules.{own, member}
 use Rattle.image.specs.Records.{Record}
 use Rattle.dispatch.specs.Dispatch.{destOf}
 use Rattle.answers.specs.Own.{ownNumber}
-use Rattle.answers.specs.OwnLaws.{both, own-range}
+use Rattle.state.specs.KeepsLaws.{both}
+use Rattle.answers.specs.OwnLaws.{own-range}
 use Rattle.answers.specs.Answers.{blocked, routeAnswer, answerFor, answerTo}
 use Rattle.answers.specs.Answers as steps
 use Rattle.history.specs.Plain.{Event, wanted, namesFault, faultNamed, tables, selects, isArm, armed, stopped, ownAnswer, packetAnswer}

@@ -12,7 +12,8 @@ use lib.Dec.{eqb, ltb, lit<}
 use lib.ListN.{length, replicate, length-map}
 use borrow.Author.Tests.{lt-ltb, le-ltb, ne-eqb, eqb-true, eqb-false}
 use Rattle.packetrules.specs.Layout.{commandId}
-use Rattle.packetrules.specs.Judge.{check, refusalOf, argumentsOf}
+use Rattle.wire.specs.Check.{check}
+use Rattle.packetrules.specs.Judge.{refusalOf, argumentsOf}
 use Rattle.packetrules.specs.Laws.{outcome}
 use Rattle.state.specs.declared.types.Arm.{Arm}
 use Rattle.state.specs.declared.types.Run.{Run}

@@ -1,17 +1,13 @@
 -- Document 01, the packet judge: its checks in the order of their numbers, its answer, and the enquiry beside it.
 use mathlib.Core.List.{List, []}
-use mathlib.Core.Bool.{Bool, true, false, cond}
+use mathlib.Core.Bool.{cond}
 use Prim.Native.Nat.{ℕ, _+_, _-_}
 use lib.ListN.{length}
 use lib.Dec.{leb, eqb}
+use Rattle.wire.specs.Check.{check}
 use Rattle.wire.specs.Xor.{xorAll}
 use Rattle.packetrules.specs.declared.types.Judged.{Judged}
 use Rattle.packetrules.specs.Layout.{version, packetType, secondary, lengthField, dataLength, pads, commandId, argCount, argumentPart}
-
--- the refusal n where the test fails, else what follows
-abbrev pub check : Bool → ℕ → ℕ → ℕ
-check true n next = next
-check false n next = n
 
 -- the checks of the header's bits and of the XOR of every byte, pads too; then what follows
 abbrev pub formChecks : List ℕ → ℕ → ℕ

@@ -8,15 +8,11 @@ use native.Mathlib.Omega.{arith}
 use lib.ListN.{length}
 use lib.Dec.{leb, eqb}
 use borrow.Author.Tests.{leb-true, leb-false, eqb-true, eqb-false, le-leb, lt-leb, eq-eqb, ne-eqb}
+use Rattle.wire.specs.Check.{check, by}
 use Rattle.wire.specs.Xor.{xorAll}
 use Rattle.packetrules.specs.Layout.{version, packetType, secondary, lengthField, dataLength, pads, commandId, argCount, argumentPart}
-use Rattle.packetrules.specs.Judge.{check, formChecks, formRefusal, refusalOf, judgeOf, argumentsOf, argumentsAt}
+use Rattle.packetrules.specs.Judge.{formChecks, formRefusal, refusalOf, judgeOf, argumentsOf, argumentsAt}
 use Rattle.packetrules.specs.Outcome.{Sized, Formed, Accepts, BadForm, not-version-0, not-telecommand, not-secondary, not-xor-0, Outcome, below-6, not-whole, bad-form, no-room, too-many, taken}
-
--- a check either refuses, where its test fails, or goes on
-by : (P : ℕ → Type 0) (b : Bool) (n next : ℕ) → (b ≡ false → P n) → (b ≡ true → P next) → P (check b n next)
-by P true n next f g = g refl
-by P false n next f g = f refl
 
 -- ---- the checks of the form
 

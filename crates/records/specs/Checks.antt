@@ -1,9 +1,10 @@
 -- Document 01, "Configuration image": the tables that records write, and what refuses a record after those before it.
-use mathlib.Core.Bool.{Bool, true, false, cond, not, _&&_}
+use mathlib.Core.Bool.{Bool, cond, not, _&&_}
 use mathlib.Core.List.{List, [], _∷_, map}
 use Prim.Native.Nat.{ℕ, _+_}
 use lib.Dec.{leb, ltb, eqb}
 use lib.ListN.{length, getD, take, drop}
+use Rattle.wire.specs.Check.{check}
 use Rattle.state.specs.Tables.{Route, FaultRow, Tables, faultId, routed}
 use Rattle.state.specs.Rules.{basicsOk, routeOk, startOk, floor}
 use Rattle.state.specs.Test.{protectedPasses, rowPasses}
@@ -55,11 +56,6 @@ unfoldable pub startsOfRecords : List Record → List ℕ
 startsOfRecords rs = map startIn (ofKind 4 rs)
 
 -- ---- what refuses a record
-
--- the refusal n where the test fails, else what follows
-abbrev pub check : Bool → ℕ → ℕ → ℕ
-check true n next = next
-check false n next = n
 
 -- the body length of the kind, and n at most 16
 unfoldable pub sized : ℕ → List ℕ → Bool

@@ -8,19 +8,15 @@ use native.Mathlib.Omega.{arith}
 use lib.Dec.{leb, ltb, eqb}
 use lib.ListN.{length, getD, length-take, length-map}
 use borrow.Author.Tests.{le-leb, lt-leb, lt-ltb, le-ltb, eq-eqb, ne-eqb, leb-true, leb-false, ltb-true, ltb-false, eqb-true, eqb-false}
+use Rattle.wire.specs.Check.{check, by}
 use Rattle.state.specs.Tables.{Tables, routeId, faultId, routed}
 use Rattle.state.specs.Rules.{basicsOk, routeOk, startOk, floor}
 use Rattle.state.specs.Test.{protectedPasses, rowPasses}
 use Rattle.state.specs.KeepsLaws.{split, both, basics-kept, basics-keeps, route-kept, route-keeps, protected-kept, protected-keeps, row-kept, row-keeps}
 use Rattle.records.specs.Records.{le16, Record}
-use Rattle.records.specs.Checks.{rowIn, startIn, tablesOfRecords, check, sized, lastKind, inOrder, rowRefusal, byTables, refusalAfter, recordRefusal}
+use Rattle.records.specs.Checks.{rowIn, startIn, tablesOfRecords, sized, lastKind, inOrder, rowRefusal, byTables, refusalAfter, recordRefusal}
 use Rattle.records.specs.Outcome.{BodyFits}
 use Rattle.records.specs.Outcome.{Order, begins, goes-on, BadOrder, first-not-basics, second-basics, falls, Shaped, idsOf, limitOf, Kept, Fine, Verdict, no-kind, past-kinds, missized, out-of-order, not-above, too-many, rule-broken, fine, Outcome, is-cut, is-whole, GoodAfter}
-
--- a check either refuses, where its test fails, or goes on
-by : (P : ℕ → Type 0) (b : Bool) (n next : ℕ) → (b ≡ false → P n) → (b ≡ true → P next) → P (check b n next)
-by P true n next f g = g refl
-by P false n next f g = f refl
 
 -- the four kinds
 pub by-kind : (P : ℕ → Type 0) → P 1 → P 2 → P 3 → P 4 → (kind : ℕ) → 1 ≤ kind → kind ≤ 4 → P kind

@@ -6,7 +6,7 @@ use Prim.Native.Nat.{ℕ, _+_, _-_, _/_, _%_}
 use lib.Dec.{eqb, leb}
 use lib.ListN.{length}
 use Rattle.records.specs.Records.{le16, Record}
-use Rattle.packetrules.specs.Judge.{check}
+use Rattle.wire.specs.Check.{check}
 use Rattle.history.specs.Plain.{Event, packet, tick, fault, Reply}
 
 -- ---- events: records in the same length and kind form as the image

@@ -7,7 +7,8 @@ use native.Mathlib.Omega.{arith}
 use borrow.Author.Tests.{not-true, not-false}
 use Rattle.state.specs.Rules.{basicsOk}
 use Rattle.records.specs.Records.{le16}
-use Rattle.records.specs.Checks.{check, basicsRefusal}
+use Rattle.wire.specs.Check.{check}
+use Rattle.records.specs.Checks.{basicsRefusal}
 use Rattle.recordcheck.proofs.basics_refusal.Statement.{statement}
 use Rattle.recordcheck.proofs.basics_refusal.Tie as tie
 
