@@ -8,7 +8,7 @@ use lib.ListN.{length}
 use Rattle.state.specs.Tables.{empty, configOf, freshRun}
 use Rattle.image.specs.declared.types.Loaded.{Loaded}
 use Rattle.image.specs.Records.{Record, recordsOf}
-pub use Rattle.records.specs.Checks.{ofKind, lastOr, basicsIn, routeIn, protectedIn, rowIn, startIn, check, lastFrom, lastKind, inOrder, basicsRefusal, routeRefusal, protectedRefusal, faultRowRefusal, byTables}
+pub use Rattle.records.specs.Checks.{ofKind, lastOr, basicsIn, routeIn, protectedIn, rowIn, startIn, lastFrom, lastKind, inOrder, basicsRefusal, routeRefusal, protectedRefusal, faultRowRefusal, byTables}
 unfoldable pub use Rattle.records.specs.Checks.{tablesOfRecords, startsOfRecords, sized, rowRefusal, refusalAfter, recordRefusal}
 
 -- ---- loading
