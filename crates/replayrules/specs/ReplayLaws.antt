@@ -4,9 +4,10 @@ use mathlib.Core.Path.{_≡_, refl, sym, ap, _∙_}
 use mathlib.Core.Bool.{true, false}
 use mathlib.Core.List.{List, []}
 use Prim.Native.Nat.{ℕ}
-use lib.ListN.{length}
+use lib.ListN.{length, take}
 use borrow.Author.Tests.{eq-eqb, ne-eqb}
 use Rattle.state.specs.declared.types.Config.{Config}
+use Rattle.state.specs.declared.types.Counts.{Counts}
 use Rattle.state.specs.declared.types.Run.{Run}
 use Rattle.state.specs.Tables.{tablesOf}
 use Rattle.state.specs.Test.{keepsRules}
@@ -20,8 +21,8 @@ use Rattle.history.specs.Known.{knownCounts}
 use Rattle.history.specs.Agree.{agree, counters}
 use Rattle.replayrules.specs.declared.types.Piece.{Piece}
 use Rattle.replayrules.specs.declared.types.Replayed.{Replayed}
-use Rattle.replayrules.specs.Recording.{eventsOf, flat, fitting}
-use Rattle.replayrules.specs.Replay.{answered, pathReplies, piece, idle, pieceOf, pieceBytes, plainReplies, replayed, unloaded, replayOf, replayBytes}
+use Rattle.replayrules.specs.Recording.{eventsOf, bytesIn, flat, fitting}
+use Rattle.replayrules.specs.Replay.{stopOf, answered, pathReplies, piece, idle, pieceOf, pieceBytes, plainReplies, replayed, unloaded, replayOf, replayBytes}
 
 -- ---- a piece behind any state
 
@@ -64,6 +65,10 @@ module _ (image recording out : List ℕ) {l : Loaded} (e : l ≡ loadOf image) 
     abbrev whole : Piece → Replayed
     whole p = record { load = 0; offset = 0; stop = p .stop; read = p .read; count = p .count; wrote = p .wrote; counts = p .run .counts }
 
+    abbrev counting : List Reply → Counts → Replayed
+    counting xs cs =
+        record { load = 0; offset = 0; stop = stopOf xs events; read = bytesIn (take (length xs) events); count = length xs; wrote = length (flat xs); counts = cs }
+
     final : replayed image events (plainReplies image recording (length out)) ≡ replayOf image recording (length out)
     unfolding replayOf
     final = rw (eq-eqb _ _ loads)
@@ -74,5 +79,5 @@ module _ (image recording out : List ℕ) {l : Loaded} (e : l ≡ loadOf image) 
         × (left ≡ over (replayBytes image recording (length out)) out)
     unfolding replayBytes
     loaded h o =
-        let same : whole (piece (tablesOf (l .config)) (l .run) events path) ≡ replayed image events path = rw (counted path) in
+        let same : whole (piece (tablesOf (l .config)) (l .run) events path) ≡ replayed image events path = ap (counting path) (counted path) in
         (ap whole h ∙ same ∙ ap (λ (xs : List Reply). replayed image events xs) plain ∙ final, o ∙ ap (λ (xs : List Reply). over (flat xs) out) plain)

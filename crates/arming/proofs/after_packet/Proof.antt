@@ -1,17 +1,14 @@
 -- `after_packet`: the timeout that it reads is the first argument byte.
-use Rattle.arming.specs.Arming.{armAfter}
+use Rattle.arming.specs.ArmingLaws.{set-after}
 use borrow.Author.Needs.{needs}
 use Rattle.arming.proofs.after_packet.Statement.{statement}
 use Rattle.arming.proofs.after_packet.Tie as tie
 
-returns : tie.Need-returns
-unfolding armAfter
-returns c = simp (c .packet-of .ensures, c .before .byte-at .ensures)
-
 pub after-packet-spec : {M : Type 1} → statement M
-after-packet-spec = tie.close
+after-packet-spec =
+    tie.close
     (tie.spec
     (λ c κs. search needs)
     (λ c. search needs)
     (λ c κs. search needs)
-    returns)
+    (λ c. set-after _ _ _ (c .packet-of .ensures) (c .before .byte-at .ensures)))
