@@ -2,7 +2,7 @@
  * The onboard command path, for C. Link with target/staticlib/libexport.a (x86-64 Linux), which `rt staticlib export` writes
  * once every function in it is proved to meet its contract. docs/EVIDENCE.md says what is proved of each.
  *
- * Every function here takes any bytes, any configuration and any run, and answers: none stops, and none reads or writes
+ * Every function here takes any bytes, any configuration and any run, and answers: each returns, and none reads or writes
  * outside what it is lent. What the caller owes is C's own: a pointer to so many bytes (not null, even where the length is 0),
  * no other access to a buffer during the call, and input buffers that do not overlap the output. Two calls share nothing, so
  * threads need no lock. Structs go by value, in and out; a state is kept by whoever calls.
@@ -56,12 +56,23 @@ enum {
     TZ_UNKNOWN_FAULT = 34       /* fault id not in the table */
 };
 
+/* answers of the builder: 0, or the first refusal in the order of the numbers */
+enum {
+    TZ_BUILT = 0,
+    TZ_APID_TOO_HIGH = 40,      /* APID above 2,047 */
+    TZ_COUNT_TOO_HIGH = 41,     /* sequence count above 16,383 */
+    TZ_TOO_MANY_ARGS = 42,      /* more than 255 arguments */
+    TZ_TOO_MANY_PADS = 43,      /* more than 127 pads */
+    TZ_OUTPUT_TOO_SMALL = 44    /* output too small */
+};
+
 enum {
     TZ_ROUTES = 128,    /* most routes */
     TZ_PROTECTED_IDS = 32,  /* most protected ids */
     TZ_ROWS = 32,       /* most fault rows */
     TZ_ROW_ARGS = 16,   /* argument places of a fault row */
     TZ_ROOM = 260,      /* output room that a step asks for */
+    TZ_LONGEST_BUILT = 392, /* the longest packet that the builder makes: 10 bytes, 255 arguments, 127 pads */
     TZ_REPLY = 266      /* output room that an event of a replay asks for: six bytes of numbers and a step's room */
 };
 
@@ -122,6 +133,12 @@ typedef struct tz_part {
     size_t length;
 } tz_part;
 
+/* The builder: 0 and the bytes written, or the first refusal and 0. */
+typedef struct tz_built {
+    uint8_t answer;
+    uint16_t written;
+} tz_built;
+
 /* Loading: 0 and offset 0 with the state, or the refusal and the offset of the first bad record with a state all zero. */
 typedef struct tz_loaded {
     uint8_t answer;
@@ -178,6 +195,18 @@ tz_judged tz_judge(const uint8_t *packet, size_t length);
 
 /* Where the arguments of a packet stand: offset 10 and their number, or 0 and 0 for a packet that the judge refuses. */
 tz_part tz_arguments(const uint8_t *packet, size_t length);
+
+/*
+ * Builds a telecommand packet at the start of the output: version 0, type telecommand, secondary header, APID; sequence flags
+ * both set, count; length field; function code with the number of pads and its high bit zero; checksum; command id; arguments;
+ * zero pads. That is 10 + args_length + pads bytes, at most 392; later bytes stay. A refusal writes nothing. What it built, the
+ * first `written` bytes of the output, tz_judge accepts with the same id and the same number of arguments, and tz_arguments
+ * tells where in them the same argument bytes stand. C cuts a number that is too large for uint16_t before the call,
+ * and a cut id is another command that nothing refuses: see that numbers fit first. `args` is not null, even where there are
+ * none.
+ */
+tz_built tz_build(uint16_t apid, uint16_t count, uint16_t id, const uint8_t *args, size_t args_length, uint16_t pads, uint8_t *out,
+    size_t room);
 
 /* Loads a configuration image. */
 tz_loaded tz_load(const uint8_t *image, size_t length);

@@ -1,5 +1,5 @@
 # The map of evidence can't rot: every crate, file, function, definition, theorem and must-fail edit that docs/EVIDENCE.md names
-# exists, and every public function, every must-fail edit and every number of document 01's two tables stands in it.
+# exists, and every public function, every must-fail edit and every number of document 01's two tables and of the builder stands in it.
 set -eu
 cd "$(dirname "$0")/.."
 map=docs/EVIDENCE.md
@@ -50,7 +50,7 @@ done >"$room/missing"
 while IFS= read -r line; do bad "the public function $line is not in the map"; done <"$room/missing"
 
 # each answer and each refusal has its line: "| 10 ..", "22 to 29", "1 .. 7"
-for n in 10 11 12 13 14 15 20 21 22 23 24 25 26 27 28 29 30 31 32 33 34; do
+for n in 10 11 12 13 14 15 20 21 22 23 24 25 26 27 28 29 30 31 32 33 34 40 41 42 43 44; do
     grep -qE "^\\|.*(^|[^0-9])$n([^0-9]|\$)" "$map" || bad "answer $n is not in the map"
 done
 [ $failed = 0 ] && echo "evidence: $(wc -l <"$room/words") names, all there; nothing is missing from the map"

@@ -69,6 +69,35 @@ static tz_stepped step(tz_config config, tz_run run, const struct event *e, uint
     return tz_step_fault(config, run, e->fault, out, room);
 }
 
+/* The builder: document 01's packets from their fields, the limits, the order of the refusals, and what is left alone. */
+static void builder(void) {
+    uint8_t out[512], many[256] = {0};
+    memset(out, 0x5A, sizeof out);
+    tz_built b = tz_build(1, 0, 20, many, 0, 0, out, sizeof g);
+    int right = b.answer == TZ_BUILT && b.written == sizeof g && memcmp(out, g, sizeof g) == 0;
+    b = tz_build(1, 0, 100, (const uint8_t *)"\x02", 1, 0, out, sizeof out);
+    right &= b.answer == TZ_BUILT && b.written == sizeof arm && memcmp(out, arm, sizeof arm) == 0;
+    b = tz_build(1, 0, 10, (const uint8_t *)"\x05", 1, 1, out, sizeof out);
+    right &= b.answer == TZ_BUILT && b.written == sizeof pad && memcmp(out, pad, sizeof pad) == 0;
+    check("G, ARM and PAD from their fields", right && still(out + sizeof pad, sizeof out - sizeof pad, 0x5A));
+
+    b = tz_build(2047, 16383, 65535, many, 255, 127, out, TZ_LONGEST_BUILT);
+    tz_judged j = tz_judge(out, TZ_LONGEST_BUILT);
+    tz_part part = tz_arguments(out, TZ_LONGEST_BUILT);
+    check("the longest packet", b.answer == TZ_BUILT && b.written == TZ_LONGEST_BUILT && j.answer == 0 && j.id == 65535
+        && j.count == 255 && part.offset == 10 && part.length == 255);
+
+    memset(out, 0x5A, sizeof out);
+    static const uint8_t want[5] = {TZ_APID_TOO_HIGH, TZ_COUNT_TOO_HIGH, TZ_TOO_MANY_ARGS, TZ_TOO_MANY_PADS, TZ_OUTPUT_TOO_SMALL};
+    int refused = 1;
+    for (int k = 0; k < 5; k++) {
+        b = tz_build(k > 0 ? 2047 : 2048, k > 1 ? 16383 : 16384, 20, many, k > 2 ? 255 : 256, k > 3 ? 127 : 128, out,
+            TZ_LONGEST_BUILT - 1);
+        refused &= b.answer == want[k] && b.written == 0;
+    }
+    check("40 to 44 in their order", refused && still(out, sizeof out, 0x5A));
+}
+
 int main(void) {
     uint8_t out[512];
     tz_loaded l = tz_load(c, sizeof c);
@@ -143,6 +172,8 @@ int main(void) {
     part = tz_arguments(g, 9);
     check("G short", j.answer == TZ_BAD_SIZE && j.id == 0 && j.count == 0 && part.offset == 0 && part.length == 0);
     check("nothing at all", tz_judge(g, 0).answer == TZ_SHORT && tz_load(c, 0).answer == TZ_EMPTY);
+
+    builder();
 
     /* what the boundary itself refuses */
     memset(out, 0x5A, sizeof out);

@@ -1,18 +1,15 @@
 -- Document 01: the bytes of a command that is sent on, and what a step leaves in the output.
 use mathlib.Core.Bool.{cond}
-use mathlib.Core.List.{List, [], _∷_, _++_}
+use mathlib.Core.List.{List, [], _∷_}
 use Prim.Native.Nat.{ℕ, _/_, _%_}
 use lib.Dec.{eqb}
-use lib.ListN.{length, drop}
+use lib.ListN.{length}
 use Rattle.state.specs.Tables.{Route}
+pub use Rattle.wire.specs.Put.{over}
 
 -- source, command id (big-endian, two bytes each), argument count (one byte), arguments
 abbrev pub commandBytes : ℕ → ℕ → List ℕ → List ℕ
 commandBytes source id args = source / 256 ∷ source % 256 ∷ id / 256 ∷ id % 256 ∷ length args ∷ args
-
--- from the start of the output; later bytes stay
-abbrev pub over : List ℕ → List ℕ → List ℕ
-over xs out = xs ++ drop (length xs) out
 
 -- a step writes output only for answer 10
 unfoldable pub sent : ℕ → ℕ → ℕ → List ℕ → List ℕ → List ℕ

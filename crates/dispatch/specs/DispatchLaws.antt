@@ -1,26 +1,16 @@
 -- Laws of the dispatch writer: a head and then the arguments put into the output, and the two cases of an answer.
-use mathlib.Core.Path.{_≡_, sym, ap, _∙_}
+use mathlib.Core.Path.{_≡_}
 use mathlib.Core.List.{List, _++_}
 use Prim.Native.Nat.{ℕ, _+_}
-use native.Mathlib.Omega.{arith}
-use lib.ListN.{length, take, drop, length-append}
-use lib.Seq.{take-at, drop-drop, drop-append-add}
+use lib.ListN.{length}
 use borrow.Author.Tests.{eq-eqb, ne-eqb}
 use Rattle.wire.specs.Put.{putAt}
+use Rattle.wire.specs.PutLaws.{put-first, put-behind}
 use Rattle.dispatch.specs.Dispatch.{commandBytes, over, sent, for10}
 
 -- bytes from the start, and bytes behind them, are the two together from the start
 pub put-twice : (out head rest : List ℕ) (n : ℕ) → length head ≡ n → putAt (putAt out 0 head) n rest ≡ over (head ++ rest) out
-put-twice out head rest n e =
-    let behind = drop (0 + length head) out in
-    let long : 0 + length head + length rest ≡ length (head ++ rest) = omega (arith, length-append head rest) in
-    let a : take n (head ++ behind) ≡ head = take-at head behind n e in
-    let b : drop (n + length rest) (head ++ behind) ≡ drop (length (head ++ rest)) out =
-    ap (λ (k : ℕ). drop (k + length rest) (head ++ behind)) (sym e)
-    ∙ drop-append-add head behind (length rest)
-    ∙ drop-drop (length rest) (0 + length head) out
-    ∙ ap (λ (k : ℕ). drop k out) long in
-    rw (a, b)
+put-twice out head rest n e = rw (put-first out head) (put-behind out head rest n e)
 
 module _ (n source id : ℕ) (args out : List ℕ) where
   pub sent-not : (n ≡ 10 → ⊥) → out ≡ sent n source id args out

@@ -5,6 +5,7 @@ use boundary::types::Part;
 use boundary::types::Portion;
 use boundary::types::Saved;
 use boundary::types::Stepping;
+use buildrules::types::Built;
 use packet::judge::Judged;
 use replayrules::types::Replayed;
 use state::types::Config;
@@ -15,6 +16,7 @@ ghost use Rattle.state.specs.Tables.{tablesOf};
 ghost use Rattle.dispatch.specs.Dispatch.{over};
 ghost use Rattle.steprules.specs.Step.{packetOutput, faultOutput};
 ghost use Rattle.replayrules.specs.Replay.{replayOf, replayBytes};
+ghost use Rattle.buildrules.specs.Build.{given, builtOf, builtOutput};
 ghost use Rattle.boundary.specs.Boundary.{partOf, loadingOf, packetCall, tickCall, faultCall, resumeCall, resumeBytes};
 
 // The judge by itself.
@@ -41,6 +43,22 @@ pub extern "C" fn tz_arguments(packet: &[u8]) -> Part
         offset: 10,
         length: part.len(),
     }
+}
+
+// The packet builder.
+#[no_mangle]
+pub extern "C" fn tz_build(
+    apid: u16,
+    count: u16,
+    id: u16,
+    args: &[u8],
+    pads: u16,
+    out: &mut [u8],
+) -> Built
+    ensures told { λ r. ⌜ r ≡ builtOf (given apid count id (now (args .entry)) pads) (length (now (out .entry))) ⌝ }
+    ensures output { λ r. ⌜ now (out .exit) ≡ builtOutput (given apid count id (now (args .entry)) pads) (now (out .entry)) ⌝ }
+{
+    builder::build(apid, count, id, args, pads, out)
 }
 
 // Loads a configuration image.

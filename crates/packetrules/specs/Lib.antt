@@ -1,5 +1,6 @@
-pub mod Layout
+pub mod HeaderBytes
 pub mod Judge
-pub mod Outcome
 pub mod Laws
+pub mod Layout
+pub mod Outcome
 pub mod Parts

@@ -1,14 +1,10 @@
 -- Laws of event records: the table of what refuses one, both ways, and the event of each kind.
 use mathlib.Core.Path.{_≡_, refl, subst}
 use mathlib.Core.Bool.{Bool, true, false, _&&_}
-use mathlib.Core.List.{List}
-use Prim.Native.Nat.{ℕ, _+_, _<_}
+use Prim.Native.Nat.{ℕ}
 use native.Mathlib.Omega.{arith}
-use lib.Dec.{eqb, leb, ltb, lit≤}
-use lib.ListN.{getD, take, drop, length-take, List·getD-eq-default}
-use lib.Seq.{getD-take, getD-drop}
-use borrow.Author.Tests.{eq-eqb, ne-eqb, eqb-true, eqb-false, leb-true, ltb-true, ltb-false}
-use Rattle.steprules.specs.RulesKept.{Bytes}
+use lib.Dec.{eqb, leb}
+use borrow.Author.Tests.{ne-eqb, eqb-true, eqb-false, leb-true}
 use Rattle.records.specs.Records.{le16, Record}
 use Rattle.history.specs.Plain.{packet, tick, fault}
 use Rattle.replayrules.specs.Recording.{eventIn, kindRefusal}
@@ -74,11 +70,3 @@ module _ (r : Record) where
 
   pub fault-event : r .kind ≡ 18 → eventIn r ≡ fault (le16 (r .body) 0)
   fault-event e = rw e
-
--- a part of bytes is bytes
-pub part-bytes : (bs : List ℕ) → Bytes bs → (from n : ℕ) → Bytes (take n (drop from bs))
-part-bytes bs h from n k = go (ltb k n) refl
-  where
-    go : (b : Bool) → ltb k n ≡ b → getD (take n (drop from bs)) k 0 < 256
-    go true e = rw (getD-take n (drop from bs) k 0 (ltb-true k n e), getD-drop from bs k 0) (h (from + k))
-    go false e = rw (List·getD-eq-default (take n (drop from bs)) 0 {n = k} (omega (arith, length-take n (drop from bs), ltb-false k n e))) (lit≤ tt)

@@ -24,10 +24,7 @@ use Rattle.answers.specs.Answers.{answerTo, faultAnswer}
 use Rattle.answers.specs.OwnLaws.{row-range}
 use Rattle.steprules.specs.Step.{statesAfter, acceptedStep, rejectedStep, packetStep, tickStep, faulted, faultStep}
 use Rattle.steprules.specs.StepLaws.{packet-rejected, packet-accepted}
-
--- a list of bytes, as every packet of the code is
-abbrev pub Bytes : List ℕ → Type 0
-Bytes p = (k : ℕ) → getD p k 0 < 256
+pub use Rattle.wire.specs.Bytes.{Bytes}
 
 -- ---- fault states
 

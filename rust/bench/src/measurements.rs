@@ -4,7 +4,7 @@ use crate::clock::{side_by_side, Measured};
 use crate::work::{self, EVENTS};
 use differential::dice::Dice;
 use std::hint::black_box;
-use tamezohishu::{Configuration, State, REPLY_ROOM, ROOM};
+use tamezohishu::{Configuration, State, LONGEST_BUILT, REPLY_ROOM, ROOM};
 
 /// Measurements that belong together.
 pub struct Section {
@@ -45,6 +45,7 @@ pub fn all() -> Vec<Section> {
             unit: "call",
             measured: loads_and_judges(),
         },
+        builds(),
         Section {
             title: "Growth with the packet's length",
             about: "Replay of 4,000 packets of so many bytes, all dispatched, under full tables."
@@ -254,6 +255,59 @@ fn loads_and_judges() -> Vec<Measured> {
         judge("judge_265_bytes", &sized(265)),
         judge("judge_1000_bytes", &sized(1000)),
     ]
+}
+
+fn build(name: &str, arguments: &[u8], pads: u16, room: usize) -> Measured {
+    let (mut out, mut other) = (vec![0xEE; room], vec![0xEE; room]);
+    let (apid, count, id) = (1_234, 5_678, 0x0A14);
+    let fields = tamezohishu::Fields {
+        apid,
+        count,
+        id,
+        arguments,
+        pads,
+    };
+    let same_fields = ordinary::Fields {
+        apid,
+        count,
+        id,
+        arguments,
+        pads,
+    };
+    let ours = tamezohishu::build_into(&fields, &mut out).map_err(|refusal| refusal.number());
+    let theirs = ordinary::build(&same_fields, &mut other).map_err(|refusal| refusal as u8);
+    assert_eq!(ours, theirs);
+    assert!(out == other, "both outputs are the same");
+    side_by_side(
+        name,
+        1,
+        || {
+            let _ = black_box(tamezohishu::build_into(black_box(&fields), &mut out));
+        },
+        || {
+            let _ = black_box(ordinary::build(black_box(&same_fields), &mut other));
+        },
+    )
+}
+
+fn builds() -> Section {
+    let arguments = Dice::new(1, 1, 5).bytes(255);
+    Section {
+        title: "Building",
+        about: format!(
+            "No arguments and no pads (10 bytes), 255 arguments (265 bytes), 255 arguments and 127 pads ({LONGEST_BUILT} bytes); \
+             `build_refused` is the last of these in room of one byte less, so it is refused (44) behind every other check. The \
+             library is called by `build_into`. The same fields again and again; the output has {LONGEST_BUILT} bytes, was \
+             written once before, and is the same memory in every call, so it is in the cache, as the arguments are."
+        ),
+        unit: "call",
+        measured: vec![
+            build("build_short", &[], 0, LONGEST_BUILT),
+            build("build_long", &arguments, 0, LONGEST_BUILT),
+            build("build_longest", &arguments, 127, LONGEST_BUILT),
+            build("build_refused", &arguments, 127, LONGEST_BUILT - 1),
+        ],
+    }
 }
 
 fn by_length() -> Vec<Measured> {

@@ -1,11 +1,17 @@
-//! The three functions of the C boundary whose refusals hand back more than `tamezohishu` shows: "with every other number
-//! zero", "the state handed back on refusal is all zero". Declared here from the header a second time.
+//! The four functions of the C boundary whose refusals hand back more than `tamezohishu` shows: "with every other number
+//! zero", "the state handed back on refusal is all zero", "its refusal and 0". Declared here from the header a second time.
 
 #[repr(C)]
 pub struct Judged {
     pub answer: u8,
     pub id: u16,
     pub count: u8,
+}
+
+#[repr(C)]
+pub struct Built {
+    pub answer: u8,
+    pub written: u16,
 }
 
 #[repr(C)]
@@ -55,6 +61,16 @@ pub struct Replayed {
 
 extern "C" {
     fn tz_judge(packet: *const u8, length: usize) -> Judged;
+    fn tz_build(
+        apid: u16,
+        count: u16,
+        id: u16,
+        args: *const u8,
+        length: usize,
+        pads: u16,
+        out: *mut u8,
+        room: usize,
+    ) -> Built;
     fn tz_load(image: *const u8, length: usize) -> Loaded;
     fn tz_replay(
         image: *const u8,
@@ -69,6 +85,23 @@ extern "C" {
 pub fn judge(packet: &[u8]) -> Judged {
     // SAFETY: the pointer is not null and has so many bytes.
     unsafe { tz_judge(packet.as_ptr(), packet.len()) }
+}
+
+pub fn build(apid: u16, count: u16, id: u16, arguments: &[u8], pads: u16, out: &mut [u8]) -> Built {
+    let (args, length) = (arguments.as_ptr(), arguments.len());
+    // SAFETY: the pointers are not null and have so many bytes, and `out` does not overlap the arguments.
+    unsafe {
+        tz_build(
+            apid,
+            count,
+            id,
+            args,
+            length,
+            pads,
+            out.as_mut_ptr(),
+            out.len(),
+        )
+    }
 }
 
 pub fn load(image: &[u8]) -> Loaded {

@@ -8,6 +8,10 @@ pub struct Tally {
     pub load: Numbers,
     pub step: Numbers,
     pub stop: Numbers,
+    pub build: Numbers,
+    /// What keeps an accepted packet from the form that the builder makes: 0 nothing; 1 other sequence flags, 2 the high bit
+    /// of the function code, 4 a pad byte that is not zero, or the sum of those that do.
+    pub form: Numbers,
 }
 
 /// How often each number from 0 to 255 was met.
@@ -30,8 +34,8 @@ impl Numbers {
 }
 
 impl Tally {
-    /// The four lists, each with the numbers that have to be met.
-    fn lists(&self) -> [(&'static str, &Numbers, Vec<u8>); 4] {
+    /// The lists, each with the numbers that have to be met.
+    fn lists(&self) -> [(&'static str, &Numbers, Vec<u8>); 6] {
         [
             (
                 "judge",
@@ -41,6 +45,12 @@ impl Tally {
             ("loading", &self.load, (0..=7).collect()),
             ("step", &self.step, (10..=15).chain(20..=34).collect()),
             ("replay", &self.stop, vec![0, 1, 2, 3, 20, 21]),
+            (
+                "build",
+                &self.build,
+                [0].into_iter().chain(40..=44).collect(),
+            ),
+            ("form", &self.form, (0..=7).collect()),
         ]
     }
 

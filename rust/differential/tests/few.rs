@@ -4,13 +4,14 @@ use differential::dice::Dice;
 use differential::parts::PARTS;
 use differential::tally::Tally;
 
-fn alike(place: usize, cases: u64) {
+fn alike(place: usize, cases: u64) -> Tally {
     let mut tally = Tally::default();
     for case in 0..cases {
         let mut dice = Dice::new(1, place as u64, case);
         let told = (PARTS[place].case)(&mut dice, &mut tally);
         assert_eq!(told, Ok(()), "case {case} of {}", PARTS[place].name);
     }
+    tally
 }
 
 #[test]
@@ -31,6 +32,14 @@ fn sessions() {
 #[test]
 fn states() {
     alike(3, 1_000);
+}
+
+/// They meet every answer of the builder and every way out of its form.
+#[test]
+fn builds() {
+    let missing = alike(4, 10_000).missing();
+    let of_builds = |name: &&String| name.starts_with("build ") || name.starts_with("form ");
+    assert_eq!(missing.iter().find(of_builds), None);
 }
 
 /// Two cases are different, and one is the same each time.

@@ -6,9 +6,11 @@
 //! independent reading, so that both sides of a measurement do the same work.
 //!
 //! [`step_packet`], [`step_tick`] and [`step_fault`] take any state and judge it, as the library's public steps do. [`inner`]
-//! has the steps that take a state that keeps its rules; [`replay`] judges once and then uses those.
+//! has the steps that take a state that keeps its rules; [`replay`] judges once and then uses those. [`build`] makes a packet
+//! from its fields, for whoever sends one.
 #![forbid(unsafe_code)]
 
+mod build;
 mod config;
 mod load;
 mod packet;
@@ -17,6 +19,7 @@ mod replay;
 mod rules;
 mod step;
 
+pub use build::{build, BuildRefusal, Fields};
 pub use config::{Config, Run, ROUTES, ROWS, ROW_ARGS};
 pub use load::{load, LoadError};
 pub use packet::{arguments, judge, Command};

@@ -46,7 +46,7 @@ pub fn judge(packet: &[u8]) -> Result<Command<'_>, Outcome> {
 }
 
 /// The XOR of all bytes, eight at a time: the compiler makes no wide loop of a fold over bytes here.
-fn xor(bytes: &[u8]) -> u8 {
+pub(crate) fn xor(bytes: &[u8]) -> u8 {
     let chunks = bytes.chunks_exact(8);
     let rest = chunks.remainder().iter().fold(0, |xor, byte| xor ^ byte);
     let word = chunks.fold(0, |xor, chunk| {

@@ -3,8 +3,8 @@
 use differential::dice::Dice;
 use differential::make::event::{self, Event};
 use differential::make::image::{self, Plan};
-use differential::make::packet;
 use differential::make::state::{damage, good_run};
+use differential::make::{fields, packet};
 use differential::oracle;
 use ordinary::{Config, Run};
 
@@ -91,6 +91,37 @@ fn packets() {
             Err(refusal) => assert_eq!(refusal as u8, expected.answer),
         }
         assert!(std::ptr::eq(ordinary::arguments(&bytes), part));
+    }
+}
+
+/// The same answer, and the same bytes in the output, those that were to stay too.
+#[test]
+fn builds() {
+    for case in 0..100_000 {
+        let dice = &mut Dice::new(2, 4, case);
+        let fields = fields::any(dice);
+        let room = fields::room(dice, &fields);
+        let mut out = dice.bytes(room);
+        let mut expected = out.clone();
+        let (apid, count, id, pads) = (fields.apid, fields.count, fields.id, fields.pads);
+        let arguments = &fields.arguments;
+        let theirs = reading::build(apid, count, id, arguments, pads, room);
+        if let Ok(packet) = &theirs {
+            expected[..packet.len()].copy_from_slice(packet);
+        }
+        let ours = ordinary::Fields {
+            apid,
+            count,
+            id,
+            arguments,
+            pads,
+        };
+        let ours = ordinary::build(&ours, &mut out);
+        assert_eq!(
+            ours.map_err(|refusal| refusal as u8),
+            theirs.map(|packet| packet.len())
+        );
+        assert!(out == expected);
     }
 }
 

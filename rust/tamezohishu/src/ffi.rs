@@ -63,6 +63,12 @@ pub struct Part {
 }
 
 #[repr(C)]
+pub struct Built {
+    pub answer: u8,
+    pub written: u16,
+}
+
+#[repr(C)]
 pub struct Loaded {
     pub answer: u8,
     pub offset: usize,
@@ -107,6 +113,16 @@ pub struct Replayed {
 extern "C" {
     pub fn tz_judge(packet: *const u8, length: usize) -> Judged;
     pub fn tz_arguments(packet: *const u8, length: usize) -> Part;
+    pub fn tz_build(
+        apid: u16,
+        count: u16,
+        id: u16,
+        args: *const u8,
+        length: usize,
+        pads: u16,
+        out: *mut u8,
+        room: usize,
+    ) -> Built;
     pub fn tz_load(image: *const u8, length: usize) -> Loaded;
     pub fn tz_step_packet(
         config: Config,
@@ -170,6 +186,8 @@ mod tests {
         assert_eq!(size_of::<Judged>(), 6);
         assert_eq!(offset_of!(Judged, count), 4);
         assert_eq!(size_of::<Part>(), 16);
+        assert_eq!(size_of::<Built>(), 4);
+        assert_eq!(offset_of!(Built, written), 2);
         assert_eq!(size_of::<Loaded>(), 1256);
         assert_eq!(offset_of!(Loaded, config), 16);
         assert_eq!(offset_of!(Loaded, run), 1200);

@@ -8,6 +8,7 @@
 //! - [`Configuration::load`] reads a configuration image, and gives the configuration and the [`State`] it starts in.
 //! - [`State::packet`], [`State::tick`] and [`State::fault`] are the steps. Each gives an [`Answer`] of four numbers.
 //! - [`judge`] and [`arguments`] ask about a packet by itself.
+//! - [`build`] makes a packet from its [`Fields`], [`build_into`] the same in a lent buffer; what it makes, [`judge`] accepts.
 //! - [`replay`] runs a whole [`Recording`] under an image, [`State::resume`] a piece of one.
 //! - [`State::to_bytes`] and [`State::from_bytes`] keep a state between two runs of a program. Bytes that were damaged make a
 //!   state whose every step answers [`Outcome::BadState`]: the library judges a state, this crate never does.
@@ -38,6 +39,7 @@
 //! # }
 //! ```
 
+mod builder;
 mod bytes;
 mod configuration;
 mod ffi;
@@ -46,9 +48,10 @@ mod packet;
 mod replay;
 mod state;
 
+pub use builder::{build, build_into, Fields};
 pub use bytes::{CONFIGURATION_BYTES, STATE_BYTES};
 pub use configuration::{Configuration, FaultRow, LoadError, Route};
-pub use numbers::{FaultState, LoadRefusal, Outcome, Refusal, Stop};
+pub use numbers::{BuildRefusal, FaultState, LoadRefusal, Outcome, Refusal, Stop};
 pub use packet::{arguments, judge, Judged};
 pub use replay::{replay, Piece, Recording, Replay, Replies, Reply, TooLong};
 pub use state::{Answer, Counters, State};
@@ -63,5 +66,7 @@ pub const ROWS: usize = ffi::ROWS;
 pub const ROW_ARGUMENTS: usize = ffi::ROW_ARGS;
 /// Output room that a step asks for, in bytes, whatever it writes.
 pub const ROOM: usize = 260;
+/// The longest packet that the builder makes, in bytes: ten, 255 arguments and 127 pads.
+pub const LONGEST_BUILT: usize = 10 + 255 + 127;
 /// Output room that an event of a replay asks for: six bytes of numbers and a step's room.
 pub const REPLY_ROOM: usize = 266;

@@ -107,6 +107,17 @@ numbers! {
 }
 
 numbers! {
+    /// Why the builder refused: the first that fits, in the order of the numbers.
+    BuildRefusal {
+        ApidTooHigh = 40: "APID above 2,047",
+        CountTooHigh = 41: "sequence count above 16,383",
+        TooManyArguments = 42: "more than 255 arguments",
+        TooManyPads = 43: "more than 127 pads",
+        OutputTooSmall = 44: "output too small",
+    }
+}
+
+numbers! {
     /// Why a replay stopped.
     Stop {
         End = 0: "all of the recording was read",
@@ -128,6 +139,7 @@ numbers! {
 }
 
 impl std::error::Error for Refusal {}
+impl std::error::Error for BuildRefusal {}
 
 impl Outcome {
     /// Whether the step was a packet's and the judge refused it (22 to 29).
@@ -153,6 +165,7 @@ mod tests {
             assert_eq!(LoadRefusal::from(number).number(), number);
             assert_eq!(Outcome::from(number).number(), number);
             assert_eq!(Refusal::from(number).number(), number);
+            assert_eq!(BuildRefusal::from(number).number(), number);
             assert_eq!(Stop::from(number).number(), number);
             assert_eq!(FaultState::from(number).number(), number);
         }
@@ -170,6 +183,8 @@ mod tests {
         assert_eq!(named(Outcome::NAMED), header);
         assert_eq!(LoadRefusal::NAMED.len(), 7);
         assert_eq!(Refusal::NAMED.len(), 8);
+        let built: Vec<u8> = BuildRefusal::NAMED.iter().map(|r| r.number()).collect();
+        assert_eq!(built, [40, 41, 42, 43, 44]);
         for refusal in Refusal::NAMED {
             let outcome = Outcome::from(refusal.number());
             assert!(outcome.is_rejected());

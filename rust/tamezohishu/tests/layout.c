@@ -24,6 +24,8 @@ PLACE(tz_run, states, 18);
 SIZE(tz_judged, 6);
 PLACE(tz_judged, count, 4);
 SIZE(tz_part, 16);
+SIZE(tz_built, 4);
+PLACE(tz_built, written, 2);
 SIZE(tz_loaded, 1256);
 PLACE(tz_loaded, config, 16);
 PLACE(tz_loaded, run, 1200);

@@ -30,6 +30,93 @@ fn the_judge_and_the_part() {
     assert_eq!(arguments(&[]), []);
 }
 
+/// Their fields as document 01's bytes have them.
+const G_FIELDS: Fields = Fields {
+    apid: 1,
+    count: 0,
+    id: 20,
+    arguments: &[],
+    pads: 0,
+};
+
+#[test]
+fn a_packet_from_its_fields() {
+    let arm = Fields {
+        id: 100,
+        arguments: &[2],
+        ..G_FIELDS
+    };
+    let pad = Fields {
+        id: 10,
+        arguments: &[5],
+        pads: 1,
+        ..G_FIELDS
+    };
+    assert_eq!(build(&G_FIELDS).as_deref(), Ok(G));
+    assert_eq!(build(&arm).as_deref(), Ok(ARM));
+    assert_eq!(build(&pad).as_deref(), Ok(PAD));
+    let longest = Fields {
+        arguments: &[0xFF; 255],
+        pads: 127,
+        ..G_FIELDS
+    };
+    assert_eq!(build(&longest).map(|p| p.len()), Ok(LONGEST_BUILT));
+}
+
+#[test]
+fn a_packet_into_a_slice() {
+    let mut out = [0xEE; 12];
+    assert_eq!(build_into(&G_FIELDS, &mut out), Ok(10));
+    assert_eq!((&out[..10], &out[10..]), (G, &[0xEE; 2][..]));
+    let mut exact = [0xEE; 10];
+    assert_eq!(build_into(&G_FIELDS, &mut exact), Ok(10));
+    assert_eq!(exact, G);
+    let mut short = [0xEE; 9];
+    assert_eq!(
+        build_into(&G_FIELDS, &mut short),
+        Err(BuildRefusal::OutputTooSmall)
+    );
+    assert_eq!(short, [0xEE; 9]);
+    assert_eq!(
+        build_into(&G_FIELDS, &mut []),
+        Err(BuildRefusal::OutputTooSmall)
+    );
+}
+
+#[test]
+fn fields_that_are_refused() {
+    let all_wrong = Fields {
+        apid: 2_048,
+        count: 16_384,
+        id: 20,
+        arguments: &[0; 256],
+        pads: 128,
+    };
+    let refusal = |fields: &Fields| build_into(fields, &mut [0; 5]).expect_err("refused");
+    assert_eq!(refusal(&all_wrong), BuildRefusal::ApidTooHigh);
+    let fields = Fields {
+        apid: 2_047,
+        ..all_wrong
+    };
+    assert_eq!(refusal(&fields), BuildRefusal::CountTooHigh);
+    let fields = Fields {
+        count: 16_383,
+        ..fields
+    };
+    assert_eq!(refusal(&fields), BuildRefusal::TooManyArguments);
+    let fields = Fields {
+        arguments: &[0; 255],
+        ..fields
+    };
+    assert_eq!(refusal(&fields), BuildRefusal::TooManyPads);
+    let fields = Fields {
+        pads: 127,
+        ..fields
+    };
+    assert_eq!(refusal(&fields), BuildRefusal::OutputTooSmall);
+    assert_eq!(refusal(&fields).to_string(), "output too small");
+}
+
 #[test]
 fn a_configuration_and_its_tables() {
     let (configuration, state) = loaded();

@@ -35,7 +35,7 @@ pub fn well_formed(dice: &mut Dice, packet: &mut Vec<u8>, id: u16, arguments: &[
 }
 
 /// How many arguments: few, any number that is accepted, or about the limit.
-fn arguments(dice: &mut Dice) -> usize {
+pub(super) fn arguments(dice: &mut Dice) -> usize {
     match dice.below(10) {
         0..=4 => dice.below(9),
         5..=7 => dice.below(256),
@@ -43,7 +43,7 @@ fn arguments(dice: &mut Dice) -> usize {
     }
 }
 
-fn pads(dice: &mut Dice) -> usize {
+pub(super) fn pads(dice: &mut Dice) -> usize {
     match dice.below(10) {
         0..=4 => 0,
         5..=6 => dice.below(5),

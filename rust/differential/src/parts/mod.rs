@@ -1,7 +1,8 @@
-//! The four parts. A case makes its input from its dice, gives it to both sides and compares; a difference is told with the
+//! The five parts. A case makes its input from its dice, gives it to both sides and compares; a difference is told with the
 //! bytes that show it.
 
 mod both;
+mod builds;
 mod images;
 mod packets;
 mod sessions;
@@ -21,7 +22,7 @@ pub struct Part {
 }
 
 /// The parts, in their order. The place of a part goes into its dice: put new ones at the end.
-pub const PARTS: [Part; 4] = [
+pub const PARTS: [Part; 5] = [
     Part {
         name: "packets",
         cases: 2_000_000,
@@ -41,6 +42,11 @@ pub const PARTS: [Part; 4] = [
         name: "states",
         cases: 40_000,
         case: states::case,
+    },
+    Part {
+        name: "builds",
+        cases: 200_000,
+        case: builds::case,
     },
 ];
 

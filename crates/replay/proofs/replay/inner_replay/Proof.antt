@@ -8,7 +8,8 @@ use lib.ListN.{length, take, drop, length-drop}
 use borrow.Author.Tests.{eq-eqb, ne-eqb}
 use Rattle.records.specs.RecordLaws.{Whole, bodyAt}
 use Rattle.history.specs.Plain.{packet, tick, fault}
-use Rattle.replayrules.specs.RecordingLaws.{fault-sized, packet-event, tick-event, fault-event, part-bytes}
+use Rattle.replayrules.specs.RecordingLaws.{fault-sized, packet-event, tick-event, fault-event}
+use Rattle.wire.specs.Bytes.{part-bytes}
 use Rattle.replayrules.specs.PathLaws.{packet-over, fault-over}
 use Rattle.replayrules.specs.OutputLaws.{partFrom, part-is}
 use Rattle.replayrules.specs.Walk.{Going, start, same, ends, cuts, found, refuses, cramped, goes-on, goes-on-silent}

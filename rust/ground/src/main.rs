@@ -1,0 +1,65 @@
+//! `ground`: the program for people on the ground. Each subcommand is a module; the rules are those of the proved library, and
+//! none is decided here.
+
+mod build;
+mod cell;
+mod ending;
+mod sheet;
+mod whole_file;
+
+use clap::Command;
+use ending::{print, Ending};
+use std::process::ExitCode;
+
+const EXAMPLES: &str = "\
+Examples:
+  ground build --apid 1 --count 0 --id 100 --args 02
+  ground build --csv session.csv --records session.rec
+  ground build --help
+
+Exit status: 0 where all went well, 1 where something was refused, 2 where the options or a file
+were not as expected. Standard error says why.";
+
+fn command() -> Command {
+    Command::new("ground")
+        .bin_name("ground")
+        .about("Commands for the satellite, by the proved command path")
+        .after_help(EXAMPLES)
+        .subcommand_required(true)
+        .arg_required_else_help(true)
+        .subcommand(build::command())
+}
+
+/// Help that was asked for goes to standard output, a complaint to standard error.
+fn explain(told: &clap::Error) -> Ending {
+    if told.use_stderr() {
+        // Where standard error can't be written to, the exit status alone tells.
+        let _ = told.print();
+        return Ending::Misused;
+    }
+    match print(&told.to_string()) {
+        Ok(()) => Ending::Done,
+        Err(told) => ending::failed("ground", &told),
+    }
+}
+
+fn main() -> ExitCode {
+    let ending = match command().try_get_matches() {
+        Ok(wanted) => match wanted.subcommand() {
+            Some(("build", wanted)) => {
+                build::run(wanted).unwrap_or_else(|told| ending::failed("ground build", &told))
+            }
+            _ => Ending::Misused,
+        },
+        Err(told) => explain(&told),
+    };
+    ending.into()
+}
+
+#[cfg(test)]
+mod tests {
+    #[test]
+    fn the_options_are_told_apart() {
+        super::command().debug_assert();
+    }
+}
