@@ -1,5 +1,6 @@
 # The two commands: `make demo` runs the step program on configuration C and its session, `make test` is the whole gate.
-# Beside them `make bench` measures the proved library beside ordinary Rust and writes docs/BENCHMARKS.md.
+# Beside them `make bench` measures the proved library beside ordinary Rust, writes docs/BENCHMARKS.md, and holds the rows that
+# the machine code loads against the definition.
 .PHONY: demo test bench
 
 demo:
@@ -16,3 +17,4 @@ bench:
 	@rt staticlib export > target/bench.log 2>&1 || { cat target/bench.log; exit 1; }
 	@bin/instructions > target/instructions
 	@bin/cargo run -q --locked --release -p bench -- --write docs/BENCHMARKS.md --instructions target/instructions
+	@bin/rows --check

@@ -213,7 +213,8 @@ tz_loaded tz_load(const uint8_t *image, size_t length);
 
 /*
  * The steps. Output is written for answer 10 only, from its start: source and command id (big-endian, two bytes each), argument
- * count (one byte), arguments; later bytes stay. 260 bytes of room are asked for, whatever is written.
+ * count (one byte), arguments; later bytes stay. 260 bytes of room are asked for, whatever is written. Each call is handed a copy of
+ * the configuration and judges the whole of it, so it reads every row of the tables; tz_resume does so once for many events.
  */
 tz_stepped tz_step_packet(tz_config config, tz_run run, const uint8_t *packet, size_t length, uint8_t *out, size_t room);
 tz_stepped tz_step_tick(tz_config config, tz_run run);
@@ -223,7 +224,9 @@ tz_stepped tz_step_fault(tz_config config, tz_run run, uint16_t fault, uint8_t *
  * Replay. A recording is a run of records: body length and kind, two bytes each, little-endian, then the body; kind 16 is a
  * packet, 17 a tick with no body, 18 a fault with its two-byte id, little-endian. For each event the output gets six bytes,
  * answer, id (two bytes, little-endian), destination, bytes written (two bytes, little-endian), and then the bytes of its
- * command, as a step writes them. The state is judged once.
+ * command, as a step writes them. tz_resume is handed the configuration and judges the state once a call, however many events
+ * there are; tz_replay loads its own. An event then looks at no more than 8 route ids, 6 protected ids and 6 fault ids (own
+ * commands 4 to 6: 12 fault ids), and a packet or a fault copies the tables within the library.
  */
 tz_piece tz_resume(tz_config config, tz_run run, const uint8_t *recording, size_t length, uint8_t *out, size_t room);
 tz_replayed tz_replay(const uint8_t *image, size_t image_length, const uint8_t *recording, size_t length, uint8_t *out, size_t room);

@@ -1,6 +1,6 @@
 -- Laws of walks over tables: what stands at a place, and what a walk that has passed the rows before it keeps true.
 use mathlib.Core.Path.{_≡_, refl, sym, ap, _∙_}
-use mathlib.Core.Bool.{Bool, true, false, cond, not, _&&_, _||_, and-false, and-true, or-false}
+use mathlib.Core.Bool.{Bool, true, false, not, _&&_, and-false, and-true}
 use mathlib.Core.List.{List, [], _∷_, map}
 use Prim.Native.Nat.{ℕ, zero, suc, _+_, _-_, _*_, _<_, _≤_}
 use native.Mathlib.Numerals.{add-one}
@@ -10,8 +10,7 @@ use lib.ListN.{length, getD, take, drop, length-take, drop-of-length-le}
 use lib.Seq.{drop-cons, drop-drop, getD-take}
 use borrow.Author.Tests.{le-leb, lt-leb, not-true, not-false}
 use Rattle.state.specs.Tables.{Route, FaultRow, routeId, faultId, listed, routeAt, rowAt}
-use Rattle.state.specs.Rules.{member}
-use Rattle.state.specs.Test.{risingAll, clear, argsClear, routePasses, rowPasses, routesKept, rowsKept, stateOk, statesOk}
+use Rattle.state.specs.Test.{risingAll, clear, argsClear, routePasses, protectedPasses, rowPasses, routesKept, protectedKept, rowsKept, stateOk, statesOk}
 
 -- ---- the test `if !r` of a result r that is known
 
@@ -94,11 +93,16 @@ pub routes-start : (base : ℕ) {f : ℕ → Route} {n : ℕ} → Walked routeId
 unfolding routesKept
 routes-start base = start refl
 
+pub protected-start : (base : ℕ) (ids ps : List ℕ) (m : ℕ) → m ≤ length ps
+    → Walked (λ id. id) (protectedPasses base ids) (λ i. getD ps i 0) m (protectedKept base ids (take m ps)) 0 0
+unfolding protectedKept
+protected-start base ids ps m l = start (rw (ids-listed ps m l))
+
 pub rows-start : (ids : List ℕ) {f : ℕ → FaultRow} {n : ℕ} → Walked faultId (rowPasses ids) f n (rowsKept ids (listed f 0 n)) 0 0
 unfolding rowsKept
 rows-start ids = start refl
 
--- ---- zeros and members: what was gathered of those before ys
+-- ---- zeros: what was gathered of those before ys
 
 pub record Zeroed (xs ys : List ℕ) (ok : Bool) : Type 0 where
   pub rest : clear xs ≡ (ok && clear ys)
@@ -113,22 +117,6 @@ module _ {xs ys : List ℕ} {a : Bool} (h : Zeroed xs ys a) where
 
   pub zero-ends : ys ≡ [] → a ≡ clear xs
   zero-ends e = sym (h .rest ∙ rw e (and-true a))
-
-pub record Searched (id : ℕ) (xs ys : List ℕ) (found : Bool) : Type 0 where
-  pub rest : member id xs ≡ (found || member id ys)
-
-noticed : (a t r : Bool) → (a || cond t true r) ≡ ((t || a) || r)
-noticed true true r = refl
-noticed true false r = refl
-noticed false true r = refl
-noticed false false r = refl
-
-module _ {id : ℕ} {xs ys : List ℕ} {a : Bool} (h : Searched id xs ys a) where
-  pub search-on : {zs : List ℕ} {x : ℕ} {b : Bool} → ys ≡ x ∷ zs → b ≡ (eqb id x || a) → Searched id xs zs b
-  search-on {zs} {x} e f = record { rest = h .rest ∙ rw (e, f) (noticed a (eqb id x) (member id zs)) }
-
-  pub search-ends : ys ≡ [] → a ≡ member id xs
-  search-ends e = sym (h .rest ∙ rw e (or-false a))
 
 -- ---- argument bytes, row by row
 

@@ -26,6 +26,9 @@ rising-snoc : (low : ℕ) (xs : List ℕ) (x : ℕ) → Rising low xs → floorF
 rising-snoc low [] x h l = (l, tt)
 rising-snoc low (y ∷ xs) x h l = (h .0, rising-snoc (suc y) xs x (h .1) l)
 
+pub routes-rise-on : (t : Tables) (b : List ℕ) → Rising 0 (routed t) → floor (routed t) ≤ le16 b 0 → Rising 0 (routed (plusRoute t b))
+routes-rise-on t b h l = rw (map-append routeId (t .routes)) (rising-snoc 0 (routed t) (le16 b 0) h l)
+
 pub each-snoc : {A : Type 0} (P : A → Type 0) (xs : List A) (x : A) → Each P xs → P x → Each P (xs ++ x ∷ [])
 each-snoc P [] x h p = (p, tt)
 each-snoc P (y ∷ xs) x h p = (h .0, each-snoc P xs x (h .1) p)

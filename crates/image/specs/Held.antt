@@ -6,12 +6,15 @@ use native.Mathlib.Omega.{arith}
 use lib.ListN.{length, getD, take, drop, set, replicate, length-map}
 use Rattle.wire.specs.Put.{putAt}
 use Rattle.state.specs.declared.types.Config.{Config}
-use Rattle.state.specs.Tables.{Tables, routeId, faultId, empty, padded, configOf}
+use Rattle.state.specs.Tables.{Tables, routeId, faultId, routed, empty, padded, configOf}
+use Rattle.state.specs.Keeps.{Rising}
+use Rattle.state.specs.Lookup.{Column}
 use Rattle.state.specs.KeepsLaws.{Few}
 use Rattle.state.specs.ArrayLaws.{padded-take, padded-more, arrays-sized}
 use Rattle.image.specs.Records.{le16, Record}
 use Rattle.image.specs.Image.{startIn, tablesOfRecords, startsOfRecords}
 use Rattle.records.specs.RecordLaws.{plus-1, plus-2, plus-3, plus-4, starts-4, starts-same, starts-count}
+use Rattle.goodimage.specs.GoodLaws.{routes-rise-on}
 use Rattle.records.specs.Outcome.{GoodAfter}
 use Rattle.records.specs.OutcomeLaws.{room-2, room-3, room-4}
 use Rattle.image.specs.Parts.{Slots, Holds}
@@ -21,6 +24,7 @@ pub record Held (rs : List Record) (c : Config) (states : List ℕ) : Type 0 whe
   pub tables-are : c ≡ configOf (tablesOfRecords rs)
   pub starts-are : states ≡ padded 32 (startsOfRecords rs)
   pub few : Few (tablesOfRecords rs)
+  pub rises : Rising 0 (routed (tablesOfRecords rs))
 
 pub none-held : {c : Config} → c ≡ configOf empty → Held [] c (replicate 32 0)
 unfolding tablesOfRecords startsOfRecords
@@ -29,6 +33,7 @@ none-held e =
       tables-are = e;
       starts-are = refl;
       few = record { few-routes = omega arith; few-protected = omega arith; few-rows = omega arith; few-args = tt };
+      rises = tt;
     }
 
 module _ {rs : List Record} {c : Config} {states : List ℕ} (h : Held rs c states) where
@@ -36,16 +41,6 @@ module _ {rs : List Record} {c : Config} {states : List ℕ} (h : Held rs c stat
   t = tablesOfRecords rs
 
   -- ---- what the parts ask
-
-  pub columns : Slots 128 (c .routeids) (c .nroutes) × Slots 32 (c .protected) (c .nprotected) × Slots 32 (c .faultids) (c .nrows)
-  columns =
-      let s = arrays-sized t (h .few) in
-      let f = h .few in
-      rw (h .tables-are) (
-        record { long = s .routeids-128; within = f .few-routes },
-        record { long = s .protected-32; within = f .few-protected },
-        record { long = s .faultids-32; within = f .few-rows },
-      )
 
   pub holds : Holds t (c .base) (take (c .nroutes) (c .routeids)) (take (c .nprotected) (c .protected)) (take (c .nrows) (c .faultids))
   holds =
@@ -56,6 +51,17 @@ module _ {rs : List Record} {c : Config} {states : List ℕ} (h : Held rs c stat
         protected-are = padded-take 32 (t .protected) (length (t .protected)) refl;
         faults-are = padded-take 32 (map faultId (t .rows)) (length (t .rows)) (length-map (t .rows) faultId);
       })
+
+  pub columns : Column 128 (c .routeids) (c .nroutes) × Slots 32 (c .protected) (c .nprotected) × Slots 32 (c .faultids) (c .nrows)
+  columns =
+      let s = arrays-sized t (h .few) in
+      let f = h .few in
+      let r : Rising 0 (take (c .nroutes) (c .routeids)) = rw (holds .routes-are) (h .rises) in
+      rw (h .tables-are) (
+        record { long = s .routeids-128; within = f .few-routes; rise = rw (h .tables-are) at r },
+        record { long = s .protected-32; within = f .few-protected },
+        record { long = s .faultids-32; within = f .few-rows },
+      )
 
   pub args-long : length (c .args) ≡ 512
   args-long = rw (h .tables-are) (arrays-sized t (h .few) .args-512)
@@ -90,6 +96,7 @@ module _ {rs : List Record} {c : Config} {states : List ℕ} (h : Held rs c stat
           tables-are = rw (h .tables-are, e, f, i, plus-1 rs r k) (stored-1 t b);
           starts-are = rw (starts-same rs r (λ z. omega arith)) (h .starts-are);
           few = rw (plus-1 rs r k) (few-1 (h .few) b);
+          rises = rw (plus-1 rs r k) (h .rises);
         }
 
     pub held-2 : r .kind ≡ 2 → {id : ℕ} → id ≡ le16 b 0 → Held (rs ++ r ∷ []) (withRoute c id (getD b 2 0)) states
@@ -99,6 +106,7 @@ module _ {rs : List Record} {c : Config} {states : List ℕ} (h : Held rs c stat
           tables-are = rw (h .tables-are, e, plus-2 rs r k) (stored-2 t b l);
           starts-are = rw (starts-same rs r (λ z. omega arith)) (h .starts-are);
           few = rw (plus-2 rs r k) (few-2 (h .few) b l);
+          rises = rw (plus-2 rs r k) (routes-rise-on t b (h .rises) (rw k at (g .rest .above)));
         }
 
     pub held-3 : r .kind ≡ 3 → {id : ℕ} → id ≡ le16 b 0 → Held (rs ++ r ∷ []) (withProtected c id) states
@@ -108,6 +116,7 @@ module _ {rs : List Record} {c : Config} {states : List ℕ} (h : Held rs c stat
           tables-are = rw (h .tables-are, e, plus-3 rs r k) (stored-3 t b l);
           starts-are = rw (starts-same rs r (λ z. omega arith)) (h .starts-are);
           few = rw (plus-3 rs r k) (few-3 (h .few) b l);
+          rises = rw (plus-3 rs r k) (h .rises);
         }
 
     pub held-4 : r .kind ≡ 4 → {id response : ℕ} {args : List ℕ}
@@ -122,4 +131,5 @@ module _ {rs : List Record} {c : Config} {states : List ℕ} (h : Held rs c stat
               rw (h .tables-are, h .starts-are, starts-4 rs r k)
               (padded-more 32 (startsOfRecords rs) (length (t .rows)) (startIn b) (starts-count rs) l);
           few = rw (plus-4 rs r k) (few-4 (h .few) b fits l);
+          rises = rw (plus-4 rs r k) (h .rises);
         }

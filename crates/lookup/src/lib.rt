@@ -1,9 +1,44 @@
-// Where a row stands in its table. The walks have a constant bound, which the compiler turns into vector code. The contracts
-// say what is found and not how: a column of ids rises, so another walk may stop earlier.
+// Where a row stands in its table: one search for every column of ids. Ids rise, so it goes in hops, each half as long as the
+// one before, to the first id that is not below the wanted one; of 128 rows it looks at 8 at most, whatever the id. `looks` of
+// specs/Search says at which; that the machine code loads these is measured, no contract speaks of it. `search` answers for any
+// column, in its own words; that ids rise is asked where the answer is to be the id's place. It goes down from the count: of a
+// search that goes up from the first row the first look is at a place that the compiler knows, and it was made whether or not the
+// table reached so far.
 ghost use mathlib.Core.Path.{_≡_};
-ghost use Prim.Native.Nat.{_≤_};
-ghost use lib.ListN.{take};
+ghost use Prim.Native.Nat.{ℕ, _<_, _≤_};
+ghost use lib.ListN.{length, take};
+ghost use Rattle.state.specs.Rules.{member};
 ghost use Rattle.state.specs.Lookup.{placeIn, Column};
+ghost use Rattle.lookup.specs.Search.{half, sought};
+
+// The search, down from behind the last id with hops of `first`, half of it, and so on to 1. The id to which the last hop
+// taken led is kept, so that nothing is looked at twice; where no hop was taken the place is n, whether 0 is wanted or not.
+fn search(ids: &[u16], n: usize, first: usize, id: u16) -> usize
+    requires { ⌜ n ≤ length (now ids) ⌝ }
+    ensures { λ r. ⌜ ((e : ℕ) → first ≡ half e → r ≡ sought e id (take n (now (ids .entry)))) ⌝ }
+{
+    let mut at = n;
+    let mut next: u16 = 0;
+    let mut step = first;
+    while step > 0 {
+        if at < step {
+            step = step / 2;
+        } else {
+            let x = ids[at - step];
+            if x < id {
+                step = step / 2;
+            } else {
+                at = at - step;
+                next = x;
+                step = step / 2;
+            }
+        }
+    }
+    if next != id {
+        return n;
+    }
+    at
+}
 
 // The place of a route by its command id; n where there is none.
 // internal: for the path's own stages, whose tables keep their rules.
@@ -11,34 +46,24 @@ pub fn route_place(ids: &[u16; 128], n: usize, id: u16) -> usize
     requires { ⌜ Column 128 (now ids) n ⌝ }
     ensures { λ r. ⌜ (r ≡ placeIn id (take n (now (ids .entry)))) × (r ≤ n) ⌝ }
 {
-    let mut k = 0;
-    while k < 128 {
-        if k >= n {
-            return n;
-        }
-        if ids[k] == id {
-            return k;
-        }
-        k += 1;
-    }
-    n
+    search(ids, n, 128, id)
 }
 
-// The place of an id among at most 32, as fault ids are; n where there is none.
+// The place of an id among at most 32, as protected ids and fault ids are; n where there is none.
 // internal: for the path's own stages, whose tables keep their rules.
 pub fn place(ids: &[u16; 32], n: usize, id: u16) -> usize
     requires { ⌜ Column 32 (now ids) n ⌝ }
     ensures { λ r. ⌜ (r ≡ placeIn id (take n (now (ids .entry)))) × (r ≤ n) ⌝ }
 {
-    let mut j = 0;
-    while j < 32 {
-        if j >= n {
-            return n;
-        }
-        if ids[j] == id {
-            return j;
-        }
-        j += 1;
-    }
-    n
+    search(ids, n, 32, id)
+}
+
+// The id is that of one of the first n routes.
+// internal: for the loader and the judge of a state, which ask it of routes that rise.
+pub fn is_routed(ids: &[u16], n: usize, id: u16) -> bool
+    requires { ⌜ Column 128 (now ids) n ⌝ }
+    ensures { λ r. ⌜ r ≡ member id (take n (now (ids .entry))) ⌝ }
+{
+    let k = search(ids, n, 128, id);
+    k < n
 }

@@ -1,1 +1,1 @@
-pub mod Seek
+pub mod Floor

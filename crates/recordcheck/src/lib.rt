@@ -5,32 +5,16 @@ ghost use mathlib.Core.Bool.{_&&_};
 ghost use Prim.Native.Nat.{_≤_, _<_};
 ghost use lib.ListN.{length, take, getD};
 ghost use Rattle.state.specs.Tables.{Tables};
-ghost use Rattle.state.specs.Rules.{member, floor, routeOk, rowOk, startOk};
+ghost use Rattle.state.specs.Lookup.{Column};
+ghost use Rattle.state.specs.Rules.{floor, routeOk, rowOk, startOk};
 ghost use Rattle.state.specs.Test.{protectedPasses, rowPasses};
 ghost use Rattle.records.specs.Records.{le16};
 ghost use Rattle.records.specs.Checks.{startIn, rowIn, rowRefusal, basicsRefusal, refusalAfter};
 ghost use Rattle.records.specs.Parts.{Slots, Holds};
+use lookup::is_routed;
 use records::record::shape;
 use records::record::word_at;
 use state::rules;
-
-// The id is among the first n.
-fn is_routed(ids: &[u16; 128], n: usize, id: u16) -> bool
-    requires { ⌜ Slots 128 (now ids) n ⌝ }
-    ensures { λ r. ⌜ r ≡ member id (take n (now (ids .entry))) ⌝ }
-{
-    let mut k = 0;
-    while k < 128 {
-        if k >= n {
-            return false;
-        }
-        if ids[k] == id {
-            return true;
-        }
-        k += 1;
-    }
-    false
-}
 
 // Widened, so that one above the last id there is still fits.
 fn wide(x: u16) -> usize
@@ -101,7 +85,7 @@ fn protected_refusal<'a>(
     protected: &'a [u16; 32],
     m: usize,
 ) -> u8
-    requires { ⌜ (length (now body) ≡ 2) × Slots 128 (now ids) n × Slots 32 (now protected) m ⌝ }
+    requires { ⌜ (length (now body) ≡ 2) × Column 128 (now ids) n × Slots 32 (now protected) m ⌝ }
     ensures { λ r. ⌜ r ≡ rowRefusal 32 (floor (take m (now (protected .entry)))) m (le16 (now (body .entry)) 0)
         (protectedPasses base (take n (now (ids .entry))) (le16 (now (body .entry)) 0)) ⌝ }
 {
@@ -130,7 +114,7 @@ fn fault_row_refusal<'a>(
     faults: &'a [u16; 32],
     k: usize,
 ) -> u8
-    requires { ⌜ (7 ≤ length (now body)) × Slots 128 (now ids) n × Slots 32 (now faults) k ⌝ }
+    requires { ⌜ (7 ≤ length (now body)) × Column 128 (now ids) n × Slots 32 (now faults) k ⌝ }
     ensures { λ r. ⌜ r ≡ rowRefusal 32 (floor (take k (now (faults .entry)))) k (le16 (now (body .entry)) 0)
         (startOk (startIn (now (body .entry))) && rowPasses (take n (now (ids .entry))) (rowIn (now (body .entry)))) ⌝ }
 {
@@ -155,7 +139,7 @@ pub fn refusal<'a>(
     faults: &'a [u16; 32],
     k: usize,
 ) -> u8
-    requires { ⌜ Slots 128 (now ids) n × Slots 32 (now protected) m × Slots 32 (now faults) k ⌝ }
+    requires { ⌜ Column 128 (now ids) n × Slots 32 (now protected) m × Slots 32 (now faults) k ⌝ }
     ensures { λ r. ⌜ ((t : Tables)
         → Holds t base (take n (now (ids .entry))) (take m (now (protected .entry))) (take k (now (faults .entry)))
         → r ≡ refusalAfter last t kind (now (body .entry))) ⌝ }

@@ -12,9 +12,10 @@ use Rattle.state.specs.Tables.{routeId, faultId, listed, routeAt, rowAt}
 use Rattle.state.specs.Sized.{Sized, SizedRun, Within}
 use Rattle.state.specs.Rules.{basicsOk}
 use Rattle.state.specs.Keeps.{Rising}
+use Rattle.state.specs.Lookup.{Column}
 use Rattle.state.specs.Test.{risingAll, rowPasses, clear, routesKept, rowsKept, rulesKept, counted, unusedClear, configKept, statesOk, runKept, keepsRules}
 use Rattle.tablecheck.specs.Parts.{bare, routesPart, rowsPart, argsPart, runPart}
-use Rattle.state.specs.KeepsLaws.{rising-keeps, route-keeps, counts-keeps}
+use Rattle.state.specs.KeepsLaws.{both, rising-keeps, route-keeps, counts-keeps}
 use Rattle.arraycheck.specs.Walks.{routed-is}
 
 -- routes that pass rise
@@ -22,6 +23,10 @@ pub routes-rise : (base : ℕ) (ids dests : List ℕ) (n : ℕ) → n ≤ length
 unfolding routesKept
 routes-rise base ids dests n l e =
     rw routed-is at (rising-keeps routeId (λ r h. route-keeps h) 0 (listed (routeAt ids dests) 0 n) e .0)
+
+pub routes-column : (base : ℕ) (ids dests : List ℕ) (n : ℕ) → (length ids ≡ 128) × (n ≤ length ids) → routesKept base (listed (routeAt ids dests) 0 n) ≡ true
+    → Column 128 ids n
+routes-column base ids dests n (l, m) e = record { long = l; within = omega arith; rise = routes-rise base ids dests n (omega arith) e }
 
 -- a row's arguments count neither for its rule nor for its state
 module _ (ids responses latching counts args : List ℕ) where
@@ -70,14 +75,22 @@ module _ (c : Config) (r : Run) where
       (simp (e, and-assoc)
       (rw (and-swap (clear (drop (c .nprotected) (c .protected))) rows, and-swap (clear (drop (c .nroutes) (c .dests))) rows, and-swap (clear (drop (c .nroutes) (c .routeids))) rows)))
 
-  -- so it is what was gathered of the answers for the parts
-  pub judged : Sized c → counted (c .nroutes) (c .nprotected) (c .nrows) ≡ true → {b t w a g x y : Bool}
+  abbrev routes-pass : Bool
+  routes-pass = routesPart (c .base) (c .routeids) (c .dests) (c .nroutes) (c .protected) (c .nprotected)
+
+  pub misrouted : Sized c → counted (c .nroutes) (c .nprotected) (c .nrows) ≡ true → routes-pass ≡ false → false ≡ keepsRules c r
+  misrouted s e f = sym (and-false (basicsOk (c .ground) (c .fault) (c .base))) ∙ rw f at (parts s e)
+
+  -- of routes that have passed the ids rise
+  pub rising : Sized c → Within c r → routes-pass ≡ true → Column 128 (c .routeids) (c .nroutes)
+  rising s w e = routes-column (c .base) (c .routeids) (c .dests) (c .nroutes) (s .routeids-128, w .routes .0) (both _ _ e .0)
+
+  -- so it is what was gathered of the answers for the parts, once the routes have passed
+  pub judged : Sized c → counted (c .nroutes) (c .nprotected) (c .nrows) ≡ true → routes-pass ≡ true → {b w a g x : Bool}
       → b ≡ basicsOk (c .ground) (c .fault) (c .base)
-      → t ≡ routesPart (c .base) (c .routeids) (c .dests) (c .nroutes) (c .protected) (c .nprotected)
       → w ≡ rowsPart (c .routeids) (c .nroutes) (c .faultids) (c .responses) (c .latching) (c .nrows)
       → a ≡ argsPart (c .argcounts) (c .nrows) (c .args)
       → g ≡ runPart (r .arm .armed) (r .arm .ticks) (c .latching) (c .nrows) (r .states)
-      → x ≡ (t && (w && (a && g)))
-      → y ≡ (b && x)
-      → y ≡ keepsRules c r
-  judged s e p q k m n i j = j ∙ rw (i, p, q, k, m, n) (parts s e)
+      → x ≡ (b && (w && (a && g)))
+      → x ≡ keepsRules c r
+  judged s e f p k m n i = i ∙ rw (p, k, m, n) (rw f at (parts s e))

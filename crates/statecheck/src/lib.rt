@@ -16,6 +16,7 @@ use valuecheck::counts_ok;
 ghost use mathlib.Core.Path.{_≡_};
 ghost use Prim.Native.Nat.{_*_, _≤_};
 ghost use lib.ListN.{length};
+ghost use Rattle.state.specs.Lookup.{Column};
 ghost use Rattle.state.specs.Test.{keepsRules};
 ghost use Rattle.tablecheck.specs.Parts.{routesPart, rowsPart, argsPart, runPart};
 
@@ -30,7 +31,7 @@ fn routes_judged<'a>(
     protected: &'a [u16],
     m: usize,
 ) -> bool
-    requires { ⌜ (n ≤ length (now ids)) × (n ≤ length (now dests)) × (m ≤ length (now protected)) ⌝ }
+    requires { ⌜ (length (now ids) ≡ 128) × (n ≤ length (now ids)) × (n ≤ length (now dests)) × (m ≤ length (now protected)) ⌝ }
     ensures { λ r. ⌜ r ≡ routesPart base (now (ids .entry)) (now (dests .entry)) n (now (protected .entry)) m ⌝ }
 {
     if !routes_keep(base, ids, dests, n) {
@@ -44,7 +45,7 @@ fn routes_judged<'a>(
     )
 }
 
-// The fault rows, their arguments aside.
+// The fault rows, their arguments aside, behind routes that rise.
 fn rows_judged<'a>(
     ids: &'a [u16],
     n: usize,
@@ -53,7 +54,7 @@ fn rows_judged<'a>(
     latching: &'a [u8],
     m: usize,
 ) -> bool
-    requires { ⌜ (n ≤ length (now ids)) × (m ≤ length (now faultids)) × (m ≤ length (now responses)) × (m ≤ length (now latching)) ⌝ }
+    requires { ⌜ Column 128 (now ids) n × (m ≤ length (now faultids)) × (m ≤ length (now responses)) × (m ≤ length (now latching)) ⌝ }
     ensures { λ r. ⌜ r ≡ rowsPart (now (ids .entry)) n (now (faultids .entry)) (now (responses .entry)) (now (latching .entry)) m ⌝ }
 {
     let rows = rows_keep(ids, n, faultids, responses, latching, m);
@@ -97,6 +98,9 @@ pub fn keeps_rules(config: Config, run: Run) -> bool
         &config.protected,
         config.nprotected,
     );
+    if !routes {
+        return false;
+    }
     let rows = rows_judged(
         &config.routeids,
         config.nroutes,
@@ -113,5 +117,5 @@ pub fn keeps_rules(config: Config, run: Run) -> bool
         config.nrows,
         &run.states,
     );
-    both(basics, all(routes, rows, args, going))
+    all(basics, rows, args, going)
 }

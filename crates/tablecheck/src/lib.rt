@@ -1,8 +1,7 @@
-// The tables of a state, each passed over once: rows that rise and keep their rule, argument bytes, fault states.
-use arraycheck::is_routed;
-use arraycheck::seek;
-use arraycheck::stands;
+// The tables of a state, each passed over once, and the routes searched besides for protected ids and responses: rows that rise
+// and keep their rule, argument bytes, fault states.
 use arraycheck::zero_bytes;
+use lookup::is_routed;
 use state::rules;
 use valuecheck::state_ok;
 use valuecheck::wide;
@@ -11,7 +10,7 @@ ghost use mathlib.Core.List.{[]};
 ghost use Prim.Native.Nat.{_*_, _≤_};
 ghost use lib.ListN.{length, take};
 ghost use Rattle.state.specs.Tables.{listed, routeAt};
-ghost use Rattle.state.specs.Keeps.{Rising};
+ghost use Rattle.state.specs.Lookup.{Column};
 ghost use Rattle.state.specs.Test.{argsClear, routesKept, protectedKept, rowsKept, statesOk};
 ghost use Rattle.tablecheck.specs.Parts.{bare};
 
@@ -58,8 +57,8 @@ pub fn routes_keep<'a>(base: u16, ids: &'a [u16], dests: &'a [u8], n: usize) -> 
     true
 }
 
-// The protected ids rise and keep their rule: one pass over both lists of ids.
-// internal: for the judge of a state, which has seen that the counts are within their limits.
+// The protected ids rise and keep their rule.
+// internal: for the judge of a state, which has seen that the counts are within their limits and that the routes rise.
 pub fn protected_keep<'a>(
     base: u16,
     ids: &'a [u16],
@@ -67,11 +66,10 @@ pub fn protected_keep<'a>(
     protected: &'a [u16],
     m: usize,
 ) -> bool
-    requires { ⌜ (n ≤ length (now ids)) × (m ≤ length (now protected)) × Rising 0 (take n (now ids)) ⌝ }
+    requires { ⌜ Column 128 (now ids) n × (m ≤ length (now protected)) ⌝ }
     ensures { λ r. ⌜ r ≡ protectedKept base (take n (now (ids .entry))) (take m (now (protected .entry))) ⌝ }
 {
     let mut low = 0;
-    let mut j = 0;
     let mut k = 0;
     while k < m {
         let id = protected[k];
@@ -79,9 +77,8 @@ pub fn protected_keep<'a>(
         if p < low {
             return false;
         }
-        j = seek(ids, n, j, id);
-        let found = stands(ids, n, j, id);
-        if !rules::protected_ok(base, found, id) {
+        let routed = is_routed(ids, n, id);
+        if !rules::protected_ok(base, routed, id) {
             return false;
         }
         low = p + 1;
@@ -91,7 +88,7 @@ pub fn protected_keep<'a>(
 }
 
 // The fault ids rise and the rows keep their rule.
-// internal: for the judge of a state, which has seen that the counts are within their limits.
+// internal: for the judge of a state, which has seen that the counts are within their limits and that the routes rise.
 pub fn rows_keep<'a>(
     ids: &'a [u16],
     n: usize,
@@ -100,7 +97,7 @@ pub fn rows_keep<'a>(
     latching: &'a [u8],
     m: usize,
 ) -> bool
-    requires { ⌜ (n ≤ length (now ids)) × (m ≤ length (now faultids)) × (m ≤ length (now responses)) × (m ≤ length (now latching)) ⌝ }
+    requires { ⌜ Column 128 (now ids) n × (m ≤ length (now faultids)) × (m ≤ length (now responses)) × (m ≤ length (now latching)) ⌝ }
     ensures { λ r. ⌜ r ≡ rowsKept (take n (now (ids .entry))) (bare (now (faultids .entry)) (now (responses .entry)) (now (latching .entry)) m) ⌝ }
 {
     let mut low = 0;

@@ -1,6 +1,6 @@
 // The tests of single values that the judge of a state asks, and what joins their answers.
 ghost use mathlib.Core.Path.{_≡_};
-ghost use mathlib.Core.Bool.{_&&_, _||_};
+ghost use mathlib.Core.Bool.{_&&_};
 ghost use Prim.Native.Nat.{_<_};
 ghost use Rattle.state.specs.Test.{counted, armOk, stateOk};
 
@@ -19,16 +19,6 @@ pub fn all(a: bool, b: bool, c: bool, d: bool) -> bool
     ensures { λ r. ⌜ r ≡ (a && (b && (c && d))) ⌝ }
 {
     both(a, both(b, both(c, d)))
-}
-
-// One holds.
-pub fn either(a: bool, b: bool) -> bool
-    ensures { λ r. ⌜ r ≡ (a || b) ⌝ }
-{
-    if a {
-        return true;
-    }
-    b
 }
 
 // The id with room for one more.

@@ -6,11 +6,13 @@
 //! beside the times; it asks for them by `--names` and `--run`.
 //!
 //! [`clock`] says how is measured, [`work`] what the input is, [`measurements`] what is measured, [`page`] how it is told.
+//! [`rows`] is another matter: which rows of the tables an event loads, for bin/rows.
 
 mod clock;
 mod machine;
 mod measurements;
 mod page;
+mod rows;
 mod work;
 
 use clock::{Instead, INSTEAD};
@@ -18,7 +20,7 @@ use std::path::PathBuf;
 use std::process::ExitCode;
 
 const USAGE: &str =
-    "usage: bench [--write FILE [--instructions FILE]] | --names | --run NAME proved|rust TIMES";
+    "usage: bench [--write FILE [--instructions FILE]] | --names | --run NAME proved|rust TIMES | --rows table|check";
 
 fn main() -> ExitCode {
     let words: Vec<String> = std::env::args().skip(1).collect();
@@ -28,6 +30,8 @@ fn main() -> ExitCode {
         ["--write", file] => (Some(file), None),
         ["--write", file, "--instructions", counts] => (Some(file), Some(counts)),
         ["--names"] => return instead(Instead::Names),
+        ["--rows", "table"] => return rows::table(),
+        ["--rows", "check"] => return rows::check(),
         ["--run", name, side @ ("proved" | "rust"), times] => {
             let Ok(times) = times.parse() else {
                 eprintln!("{USAGE}");

@@ -22,8 +22,8 @@ judged b ids faults n k i l p q o e = rw (← i, ← l, ← p, ← q, ← o) e
 
 returns : tie.Need-returns
 returns c =
-    let a = c .before .before .before .before .before .before .before .before .before .before .args in
-    judged (a .body .now) (a .ids .now) (a .faults .now) (a .n) (a .k) (c .before .before .before .before .before .before .before .before .word-at .ensures) (c .before .before .before .before .before .before .floor-of .ensures) (c .before .before .before .before .before .word-at2 .ensures) (c .before .before .before .before .is-routed .ensures) (c .before .row-ok .ensures) (c .row-refusal .ensures)
+    let a = c .before .before .before .before .before .before .before .before .before .before .before .args in
+    judged (a .body .now) (a .ids .now) (a .faults .now) (a .n) (a .k) (c .before .before .before .before .before .before .before .before .before .word-at .ensures) (c .before .before .before .before .before .before .before .floor-of .ensures) (c .before .before .before .before .before .word-at2 .ensures) (c .before .before .before .before .is-routed .ensures) (c .before .row-ok .ensures) (c .row-refusal .ensures)
 
 pub fault-row-refusal-spec : {M : Type 1} → statement M
 fault-row-refusal-spec =
@@ -32,7 +32,7 @@ fault-row-refusal-spec =
     (λ c κs. omega arith)
     (λ c κs. search needs)
     (λ c κs. omega arith)
-    (λ c κs. search needs)
+    (λ c κs. c .before .before .before .before .before .before .pre .1)
     (λ c. omega arith)
     (λ c. omega arith)
     (λ c κs. tt)

@@ -1,7 +1,7 @@
 -- `floor_of`: one above the last of the first n.
 use native.Mathlib.Omega.{arith}
 use borrow.Author.Needs.{needs}
-use Rattle.recordcheck.specs.Seek.{floor-at}
+use Rattle.recordcheck.specs.Floor.{floor-at}
 use Rattle.recordcheck.proofs.floor_of.Statement.{statement}
 use Rattle.recordcheck.proofs.floor_of.Tie as tie
 

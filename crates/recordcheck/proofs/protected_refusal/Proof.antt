@@ -21,9 +21,10 @@ judged b ids protected base n m i l q o e = rw (← i, ← l, ← q, ← o) e
 
 returns : tie.Need-returns
 returns c =
-    let a = c .before .before .before .before .before .before .before .args in
-    judged (a .body .now) (a .ids .now) (a .protected .now) (a .base) (a .n) (a .m) (c .before .before .before .before .before .word-at .ensures) (c .before .before .before .floor-of .ensures) (c .before .before .is-routed .ensures) (c .before .protected-ok .ensures) (c .row-refusal .ensures)
+    let a = c .before .before .before .before .before .before .before .before .args in
+    judged (a .body .now) (a .ids .now) (a .protected .now) (a .base) (a .n) (a .m) (c .before .before .before .before .before .before .word-at .ensures) (c .before .before .before .before .floor-of .ensures) (c .before .before .is-routed .ensures) (c .before .protected-ok .ensures) (c .row-refusal .ensures)
 
 pub protected-refusal-spec : {M : Type 1} → statement M
 protected-refusal-spec =
-    tie.close (tie.spec (λ c κs. omega arith) (λ c κs. search needs) (λ c κs. search needs) (λ c κs. tt) (λ c κs. tt) returns)
+    tie.close
+    (tie.spec (λ c κs. omega arith) (λ c κs. search needs) (λ c κs. c .before .before .before .before .before .pre .1) (λ c κs. tt) (λ c κs. tt) returns)

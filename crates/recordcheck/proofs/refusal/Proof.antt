@@ -3,7 +3,7 @@ use native.Mathlib.Omega.{arith}
 use mathlib.Core.Path.{_≡_}
 use Rattle.records.specs.Outcome.{Shaped}
 use Rattle.records.specs.PartLaws.{by-basics, by-route, by-protected, by-fault-row}
-use Rattle.recordcheck.specs.Seek.{count}
+use Rattle.recordcheck.specs.Floor.{count, slots}
 use Rattle.recordcheck.proofs.refusal.Statement.{statement}
 use Rattle.recordcheck.proofs.refusal.Tie as tie
 
@@ -17,7 +17,7 @@ fourth c = let s = shaped (c .before .before .before) in omega (arith, s .kind-l
 
 returns-3 : tie.Need-returns-3
 returns-3 c t h =
-    let n = count (c .before .before .before .before .before .before .pre .0) in
+    let n = count (slots (c .before .before .before .before .before .before .pre .0)) in
     by-route (shaped (c .before .before .before)) h (c .before .if3 .taken) n (c .route-refusal .ensures)
 
 returns-4 : tie.Need-returns-4
@@ -38,7 +38,7 @@ refusal-spec =
     (λ c t h. c .before .shape .ensures .refused (c .if1 .taken) t)
     (λ c κs. shaped (c .before) .fits .basics-6 (c .if2 .taken))
     (λ c t h. by-basics (shaped (c .before .before)) t (c .before .if2 .taken) (c .basics-refusal .ensures))
-    (λ c κs. (shaped (c .before .before) .fits .route-3 (c .if3 .taken), c .before .before .before .before .before .pre .0))
+    (λ c κs. (shaped (c .before .before) .fits .route-3 (c .if3 .taken), slots (c .before .before .before .before .before .pre .0)))
     returns-3
     (λ c κs. let a = c .before .before .before .before .before .before .pre in
     (shaped (c .before .before .before) .fits .protected-2 (c .if4 .taken), a .0, a .1))

@@ -2,7 +2,7 @@
 use native.Mathlib.Omega.{arith}
 use borrow.Author.Needs.{needs}
 use Rattle.arraycheck.specs.Walks.{refuted, held}
-use Rattle.statecheck.specs.JudgeLaws.{routes-rise}
+use Rattle.statecheck.specs.JudgeLaws.{routes-column}
 use Rattle.statecheck.proofs.routes_judged.Statement.{statement}
 use Rattle.statecheck.proofs.routes_judged.Tie as tie
 
@@ -13,7 +13,7 @@ routes-judged-spec =
     (λ c κs. search needs)
     (λ c. simp (refuted (c .before .routes-keep .ensures) (c .if1 .taken)))
     (λ c κs. let a = c .before .before .before .before .before .args in
-    (omega arith, omega arith, routes-rise (a .base) (a .ids .now) (a .dests .now) (a .n) (omega arith) (held (c .before .routes-keep .ensures) (c .if1 .left))))
+    (routes-column (a .base) (a .ids .now) (a .dests .now) (a .n) (omega arith) (held (c .before .routes-keep .ensures) (c .if1 .left)), omega arith))
     (λ c κs. tt)
     (λ c κs. tt)
     (λ c κs. tt)

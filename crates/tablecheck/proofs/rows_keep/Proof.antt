@@ -32,7 +32,7 @@ rows-keep-spec =
     (λ c. sinks (c .before .before .before .before .loop .inv) (omega arith))
     (λ c. search needs)
     (λ c. omega arith)
-    (λ c κs. omega arith)
+    (λ c κs. c .before .before .before .before .before .before .before .before .before .before .pre .0)
     (λ c. omega arith)
     (λ c κs. tt)
     (λ c. fails (c .before .before .before .before .before .before .before .before .before .loop .inv) (omega arith)
