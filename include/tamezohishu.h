@@ -3,9 +3,11 @@
  * once every function in it is proved to meet its contract. docs/EVIDENCE.md says what is proved of each.
  *
  * Every function here takes any bytes, any configuration and any run, and answers: each returns, and none reads or writes
- * outside what it is lent. What the caller owes is C's own: a pointer to so many bytes (not null, even where the length is 0),
- * no other access to a buffer during the call, and input buffers that do not overlap the output. Two calls share nothing, so
- * threads need no lock. Structs go by value, in and out; a state is kept by whoever calls.
+ * outside what it is lent. A state is kept by whoever calls; a step is lent it, copies no table, and changes the run where it
+ * stands. What the caller owes is C's own: a pointer to so many bytes (not null, even where the length is 0), or to a
+ * configuration or a run; run and output overlap nothing else that is lent; during the call nothing else touches the run or
+ * the output, and nothing writes the configuration or the input. Beyond that two calls share nothing, so threads need no lock,
+ * and may share a configuration.
  */
 #ifndef TAMEZOHISHU_H
 #define TAMEZOHISHU_H
@@ -16,6 +18,22 @@
 #ifdef __cplusplus
 extern "C" {
 #endif
+
+/* ---- which header this is ---- */
+
+/*
+ * One number that moves with every change of a struct or a signature here; compare at the start. A program that was compiled
+ * with another header than its archive's reads and writes the wrong places, and nothing else would tell.
+ */
+#define TZ_ABI 1
+
+/* The number of the archive. */
+uint32_t tz_abi(void);
+
+/* Whether the archive has the structs and signatures of this header: 1 or 0. */
+static inline int tz_same_abi(void) {
+    return tz_abi() == TZ_ABI;
+}
 
 /* ---- numbers ---- */
 
@@ -76,19 +94,36 @@ enum {
     TZ_REPLY = 266      /* output room that an event of a replay asks for: six bytes of numbers and a step's room */
 };
 
+/*
+ * Bytes of the stack that a function takes at most, from its return address down. tests/c/stack.c measures them and holds them
+ * against these numbers, of the archive as it is built here. Beside them a call has its arguments on the stack, 128 bytes at
+ * most, and the struct that it hands back, wherever the caller wants it. In a program that binds functions at their first use,
+ * the first memcpy and memset take the loader's stack besides: link with -z now, or statically.
+ */
+enum {
+    TZ_STACK_ALONE = 64,    /* tz_abi 8, tz_judge 8, tz_arguments 8, tz_build 40 */
+    TZ_STACK_STEP = 1024,   /* tz_lent_packet 528, tz_lent_tick 448, tz_lent_fault 496, tz_lent_resume 768: so the steps too */
+    TZ_STACK_LOAD = 8192    /* tz_load 5,008, tz_replay 6,304: they build the tables there */
+};
+
 /* ---- the state ---- */
+
+/* The numbers of a configuration. */
+typedef struct tz_numbers {
+    uint16_t ground;    /* source number of the ground */
+    uint16_t fault;     /* source number of fault responses */
+    uint16_t base;      /* own ids are base to base + 7 */
+    size_t nroutes;     /* routes in use */
+    size_t nprotected;  /* protected ids in use */
+    size_t nrows;       /* fault rows in use */
+} tz_numbers;
 
 /* The configuration. It comes from tz_load and is only ever read. Places that are not in use are 0. */
 typedef struct tz_config {
-    uint16_t ground;                            /* source number of the ground */
-    uint16_t fault;                             /* source number of fault responses */
-    uint16_t base;                              /* own ids are base to base + 7 */
-    size_t nroutes;                             /* routes in use */
+    tz_numbers numbers;
     uint16_t routeids[TZ_ROUTES];               /* command ids, rising */
     uint8_t dests[TZ_ROUTES];                   /* destination of each, 1 to 31 */
-    size_t nprotected;                          /* protected ids in use */
     uint16_t protected_ids[TZ_PROTECTED_IDS];   /* rising */
-    size_t nrows;                               /* fault rows in use */
     uint16_t faultids[TZ_ROWS];                 /* rising */
     uint16_t responses[TZ_ROWS];                /* response command id of each */
     uint8_t latching[TZ_ROWS];                  /* 0 or 1 */
@@ -108,8 +143,8 @@ typedef struct tz_counts {
 } tz_counts;
 
 /*
- * The run: what steps change. `armed` is 0 or 1. Any other number breaks the state's rules: such a call answers 20 and hands
- * the run back as it came. A run from elsewhere, or one that was damaged, is judged by each step in the same way.
+ * The run: what steps change. `armed` is 0 or 1. Any other number breaks the state's rules: such a call answers 20 and
+ * leaves the run as it was. A run from elsewhere, or one that was damaged, is judged by each step in the same way.
  */
 typedef struct tz_run {
     uint8_t armed;
@@ -155,19 +190,12 @@ typedef struct tz_answer {
     uint16_t written;
 } tz_answer;
 
-/* A step: the run that it left, and its answer. */
-typedef struct tz_stepped {
-    tz_run run;
-    tz_answer answer;
-} tz_stepped;
-
 /*
  * A piece of a recording. `stop` is 0 where all of it was read, 1, 2 or 3 at the first bad record (cut, of another kind, of
  * wrong length), 20 where the state breaks its rules, 21 where an event was left and less than 266 bytes of the output. The
  * state is judged first, even for an empty recording; then each record before the room for its event.
  */
 typedef struct tz_piece {
-    tz_run run;
     uint8_t stop;
     size_t read;    /* bytes of the recording that were read; the bad record begins there */
     size_t count;   /* events that were answered */
@@ -212,24 +240,117 @@ tz_built tz_build(uint16_t apid, uint16_t count, uint16_t id, const uint8_t *arg
 tz_loaded tz_load(const uint8_t *image, size_t length);
 
 /*
- * The steps. Output is written for answer 10 only, from its start: source and command id (big-endian, two bytes each), argument
- * count (one byte), arguments; later bytes stay. 260 bytes of room are asked for, whatever is written. Each call is handed a copy of
- * the configuration and judges the whole of it, so it reads every row of the tables; tz_resume does so once for many events.
+ * A recording under an image, from its start state. Its records and the output are those of tz_resume.
  */
-tz_stepped tz_step_packet(tz_config config, tz_run run, const uint8_t *packet, size_t length, uint8_t *out, size_t room);
-tz_stepped tz_step_tick(tz_config config, tz_run run);
-tz_stepped tz_step_fault(tz_config config, tz_run run, uint16_t fault, uint8_t *out, size_t room);
+tz_replayed tz_replay(const uint8_t *image, size_t image_length, const uint8_t *recording, size_t length, uint8_t *out, size_t room);
+
+/* ---- lent ---- */
 
 /*
- * Replay. A recording is a run of records: body length and kind, two bytes each, little-endian, then the body; kind 16 is a
- * packet, 17 a tick with no body, 18 a fault with its two-byte id, little-endian. For each event the output gets six bytes,
- * answer, id (two bytes, little-endian), destination, bytes written (two bytes, little-endian), and then the bytes of its
- * command, as a step writes them. tz_resume is handed the configuration and judges the state once a call, however many events
- * there are; tz_replay loads its own. An event then looks at no more than 8 route ids, 6 protected ids and 6 fault ids (own
- * commands 4 to 6: 12 fault ids), and a packet or a fault copies the tables within the library.
+ * The steps as the archive has them, for wrappers in other languages; from C use those below. They are lent the columns of a
+ * configuration and the fault states of a run, each a pointer to its array; the rest of both goes by value. Of the run they
+ * hand back all but the fault states, which they change where they stand (tz_lent_tick leaves them). Everything that is said of
+ * the steps below holds for these.
  */
-tz_piece tz_resume(tz_config config, tz_run run, const uint8_t *recording, size_t length, uint8_t *out, size_t room);
-tz_replayed tz_replay(const uint8_t *image, size_t image_length, const uint8_t *recording, size_t length, uint8_t *out, size_t room);
+
+/* What a step leaves beside the fault states. */
+typedef struct tz_left {
+    uint8_t armed;
+    uint16_t ticks;
+    tz_counts counts;
+    tz_answer answer;
+} tz_left;
+
+/* What a piece of a recording leaves beside the fault states, and what it came to: as in tz_piece. */
+typedef struct tz_reached {
+    uint8_t armed;
+    uint16_t ticks;
+    tz_counts counts;
+    uint8_t stop;
+    size_t read;
+    size_t count;
+    size_t wrote;
+} tz_reached;
+
+tz_left tz_lent_packet(tz_numbers numbers, const uint16_t routeids[TZ_ROUTES], const uint8_t dests[TZ_ROUTES],
+    const uint16_t protected_ids[TZ_PROTECTED_IDS], const uint16_t faultids[TZ_ROWS], const uint16_t responses[TZ_ROWS],
+    const uint8_t latching[TZ_ROWS], const uint8_t argcounts[TZ_ROWS], const uint8_t args[TZ_ROWS * TZ_ROW_ARGS],
+    uint8_t armed, uint16_t ticks, tz_counts counts, uint8_t states[TZ_ROWS],
+    const uint8_t *packet, size_t length, uint8_t *out, size_t room);
+tz_left tz_lent_tick(tz_numbers numbers, const uint16_t routeids[TZ_ROUTES], const uint8_t dests[TZ_ROUTES],
+    const uint16_t protected_ids[TZ_PROTECTED_IDS], const uint16_t faultids[TZ_ROWS], const uint16_t responses[TZ_ROWS],
+    const uint8_t latching[TZ_ROWS], const uint8_t argcounts[TZ_ROWS], const uint8_t args[TZ_ROWS * TZ_ROW_ARGS],
+    uint8_t armed, uint16_t ticks, tz_counts counts, const uint8_t states[TZ_ROWS]);
+tz_left tz_lent_fault(tz_numbers numbers, const uint16_t routeids[TZ_ROUTES], const uint8_t dests[TZ_ROUTES],
+    const uint16_t protected_ids[TZ_PROTECTED_IDS], const uint16_t faultids[TZ_ROWS], const uint16_t responses[TZ_ROWS],
+    const uint8_t latching[TZ_ROWS], const uint8_t argcounts[TZ_ROWS], const uint8_t args[TZ_ROWS * TZ_ROW_ARGS],
+    uint8_t armed, uint16_t ticks, tz_counts counts, uint8_t states[TZ_ROWS],
+    uint16_t fault, uint8_t *out, size_t room);
+tz_reached tz_lent_resume(tz_numbers numbers, const uint16_t routeids[TZ_ROUTES], const uint8_t dests[TZ_ROUTES],
+    const uint16_t protected_ids[TZ_PROTECTED_IDS], const uint16_t faultids[TZ_ROWS], const uint16_t responses[TZ_ROWS],
+    const uint8_t latching[TZ_ROWS], const uint8_t argcounts[TZ_ROWS], const uint8_t args[TZ_ROWS * TZ_ROW_ARGS],
+    uint8_t armed, uint16_t ticks, tz_counts counts, uint8_t states[TZ_ROWS],
+    const uint8_t *recording, size_t length, uint8_t *out, size_t room);
+
+/* ---- the steps ---- */
+
+/* The run as a step left it; the fault states stand there already. */
+static inline tz_answer tz_take_left(tz_run *run, tz_left left) {
+    run->armed = left.armed;
+    run->ticks = left.ticks;
+    run->counts = left.counts;
+    return left.answer;
+}
+
+/*
+ * The steps. Each changes the run where it stands, and hands back the answer. Output is written for answer 10 only, from its
+ * start: source and command id (big-endian, two bytes each), argument count (one byte), arguments; later bytes stay. 260 bytes
+ * of room are asked for, whatever is written. Answers 20 and 21 leave run and output as they were. Nothing of the configuration
+ * is copied but its numbers; each call judges the whole state, and so reads every row of the tables. tz_resume does so once for
+ * many events.
+ */
+static inline tz_answer tz_step_packet(const tz_config *config, tz_run *run, const uint8_t *packet, size_t length, uint8_t *out,
+    size_t room) {
+    return tz_take_left(run, tz_lent_packet(config->numbers, config->routeids, config->dests, config->protected_ids,
+        config->faultids, config->responses, config->latching, config->argcounts, config->args, run->armed, run->ticks,
+        run->counts, run->states, packet, length, out, room));
+}
+
+static inline tz_answer tz_step_tick(const tz_config *config, tz_run *run) {
+    return tz_take_left(run, tz_lent_tick(config->numbers, config->routeids, config->dests, config->protected_ids,
+        config->faultids, config->responses, config->latching, config->argcounts, config->args, run->armed, run->ticks,
+        run->counts, run->states));
+}
+
+static inline tz_answer tz_step_fault(const tz_config *config, tz_run *run, uint16_t fault, uint8_t *out, size_t room) {
+    return tz_take_left(run, tz_lent_fault(config->numbers, config->routeids, config->dests, config->protected_ids,
+        config->faultids, config->responses, config->latching, config->argcounts, config->args, run->armed, run->ticks,
+        run->counts, run->states, fault, out, room));
+}
+
+/*
+ * A piece of a recording. A recording is a run of records: body length and kind, two bytes each, little-endian, then the body;
+ * kind 16 is a packet, 17 a tick with no body, 18 a fault with its two-byte id, little-endian. For each event the output gets
+ * six bytes, answer, id (two bytes, little-endian), destination, bytes written (two bytes, little-endian), and then the bytes of
+ * its command, as a step writes them; later bytes stay. The state is judged once a call, however many events there are. An event
+ * then looks at no more than 8 route ids, 6 protected ids and 6 fault ids, where they stand. The run is left as the last answer
+ * left it.
+ */
+static inline tz_piece tz_resume(const tz_config *config, tz_run *run, const uint8_t *recording, size_t length, uint8_t *out,
+    size_t room) {
+    tz_reached reached = tz_lent_resume(config->numbers, config->routeids, config->dests, config->protected_ids,
+        config->faultids, config->responses, config->latching, config->argcounts, config->args, run->armed, run->ticks,
+        run->counts, run->states, recording, length, out, room);
+    tz_piece piece;
+    run->armed = reached.armed;
+    run->ticks = reached.ticks;
+    run->counts = reached.counts;
+    piece.stop = reached.stop;
+    piece.read = reached.read;
+    piece.count = reached.count;
+    piece.wrote = reached.wrote;
+    return piece;
+}
 
 #ifdef __cplusplus
 }

@@ -1,5 +1,5 @@
-# The C boundary: the header, the archive and two C programs, compiled and run. On a processor that is not x86-64 they are
-# compiled by the cross compiler and run under the toolchain's emulator.
+# The C boundary: the header, the archive and three C programs, compiled and run; one of them measures the stack. On a processor
+# that is not x86-64 they are compiled by the cross compiler and run under the toolchain's emulator.
 set -eu
 cd "$(dirname "$0")/.."
 . bin/x86
@@ -10,7 +10,17 @@ rt staticlib export >"$room/log" 2>&1 || { cat "$room/log" >&2; exit 1; }
 compile() { $X86_CC -std=c11 -Wall -Wextra -Wpedantic -Werror -O2 -Iinclude -o "$room/$1" "$2" target/staticlib/libexport.a; }
 compile boundary tests/c/boundary.c
 compile session examples/c/session.c
+compile stack tests/c/stack.c
 x86_run "$room/boundary"
+x86_run "$room/stack"
+
+# The header as C++, where there is a compiler for it; any processor's will do.
+if command -v "${CXX:-c++}" >/dev/null; then
+    echo '#include "tamezohishu.h"' | ${CXX:-c++} -x c++ -std=c++11 -Wall -Wextra -Wpedantic -Werror -Iinclude -fsyntax-only -
+    echo "c boundary: the header as C++: ok"
+else
+    echo "c boundary: the header as C++: no compiler here, not tried"
+fi
 if [ "$(x86_run "$room/session")" = "0 0
 30 20 0 0
 11 100 0 0
@@ -22,3 +32,18 @@ else
     echo "c boundary: examples/c/session.c: not as expected" >&2
     exit 1
 fi
+
+# The example with a header of another number, newer and older: it says which, and calls nothing else.
+number=$(sed -n 's/^#define TZ_ABI //p' include/tamezohishu.h)
+for other in "$((number + 1)) header" "$((number - 1)) archive"; do
+    mkdir -p "$room/other"
+    sed "s/^#define TZ_ABI .*/#define TZ_ABI ${other% *}/" include/tamezohishu.h >"$room/other/tamezohishu.h"
+    $X86_CC -std=c11 -O2 -I"$room/other" -o "$room/session" examples/c/session.c target/staticlib/libexport.a
+    if x86_run "$room/session" >"$room/told" 2>&1 || [ "$(cat "$room/told")" != \
+        "session: compiled with header ${other% *}, linked with archive $number: the ${other#* } is newer" ]; then
+        cat "$room/told" >&2
+        echo "c boundary: a header of number ${other% *}: not as expected" >&2
+        exit 1
+    fi
+done
+echo "c boundary: a header that is newer or older is told: ok"

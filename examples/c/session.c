@@ -10,17 +10,18 @@ static const uint8_t arm[] = {0x18, 1, 0xC0, 0, 0, 4, 0, 0xBB, 0, 0x64, 2};
 static void show(tz_answer a) { printf("%u %u %u %u\n", a.answer, a.id, a.dest, a.written); }
 
 int main(void) {
+    if (!tz_same_abi()) {
+        fprintf(stderr, "session: compiled with header %u, linked with archive %u: the %s is newer\n", (unsigned)TZ_ABI,
+            (unsigned)tz_abi(), tz_abi() < TZ_ABI ? "header" : "archive");
+        return 1;
+    }
     uint8_t out[TZ_ROOM] = {0};
     tz_loaded l = tz_load(c, sizeof c);
     printf("%u %zu\n", l.answer, l.offset);
-    tz_stepped s = tz_step_packet(l.config, l.run, g, sizeof g, out, sizeof out);
-    show(s.answer);
-    s = tz_step_packet(l.config, s.run, arm, sizeof arm, out, sizeof out);
-    show(s.answer);
-    s = tz_step_packet(l.config, s.run, g, sizeof g, out, sizeof out);
-    show(s.answer);
-    s = tz_step_fault(l.config, s.run, 7, out, sizeof out);
-    show(s.answer);
-    printf("dispatched %u, source %u\n", s.run.counts.d, out[0] * 256u + out[1]);
+    show(tz_step_packet(&l.config, &l.run, g, sizeof g, out, sizeof out));
+    show(tz_step_packet(&l.config, &l.run, arm, sizeof arm, out, sizeof out));
+    show(tz_step_packet(&l.config, &l.run, g, sizeof g, out, sizeof out));
+    show(tz_step_fault(&l.config, &l.run, 7, out, sizeof out));
+    printf("dispatched %u, source %u\n", l.run.counts.d, out[0] * 256u + out[1]);
     return 0;
 }

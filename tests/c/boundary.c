@@ -1,7 +1,7 @@
 /*
  * The C boundary in use: document 01's session by steps and by replay, each refusal of the boundary's own (an armed byte that is
- * no bool, a state from elsewhere, short room), and that no byte behind the written part changes. Prints a line for each check
- * and ends with 1 if one failed.
+ * no bool, a state from elsewhere, short room), that these change neither configuration, run nor output, and that no byte behind
+ * the written part changes. Prints a line for each check and ends with 1 if one failed.
  */
 #include <stdio.h>
 #include <string.h>
@@ -63,15 +63,44 @@ static int still(const uint8_t *bytes, size_t n, uint8_t v) {
     return 1;
 }
 
-static tz_stepped step(tz_config config, tz_run run, const struct event *e, uint8_t *out, size_t room) {
+static tz_answer step(const tz_config *config, tz_run *run, const struct event *e, uint8_t *out, size_t room) {
     if (e->kind == PACKET) return tz_step_packet(config, run, e->packet, e->length, out, room);
     if (e->kind == TICK) return tz_step_tick(config, run);
     return tz_step_fault(config, run, e->fault, out, room);
 }
 
+/* What every call that the boundary refuses must leave: the run, the output, and the configuration byte for byte. */
+static const tz_config *lent;
+static tz_config lent_before;
+static tz_run run_before;
+static uint8_t out[512];
+
+static void lend(const tz_config *config, const tz_run *run) {
+    lent = config;
+    memcpy(&lent_before, config, sizeof lent_before);
+    run_before = *run;
+    memset(out, 0x5A, sizeof out);
+}
+
+static int nothing_changed(const tz_run *run) {
+    return same_run(run, &run_before) && still(out, sizeof out, 0x5A) && memcmp(lent, &lent_before, sizeof lent_before) == 0;
+}
+
+/* Whether each of the four calls that take a state answers 20, with room enough, and changes nothing. */
+static int all_refuse(const tz_config *config, tz_run *run, const uint8_t *recording, size_t length) {
+    lend(config, run);
+    int kept = is_bare(tz_step_packet(config, run, pad, sizeof pad, out, sizeof out), TZ_BAD_STATE) && nothing_changed(run);
+    kept &= is_bare(tz_step_fault(config, run, 7, out, sizeof out), TZ_BAD_STATE) && nothing_changed(run);
+    kept &= is_bare(tz_step_tick(config, run), TZ_BAD_STATE) && nothing_changed(run);
+    tz_piece p = tz_resume(config, run, recording, length, out, sizeof out);
+    kept &= p.stop == TZ_BAD_STATE && p.read == 0 && p.count == 0 && p.wrote == 0 && nothing_changed(run);
+    p = tz_resume(config, run, recording, 0, out, 0);
+    return kept && p.stop == TZ_BAD_STATE && nothing_changed(run);
+}
+
 /* The builder: document 01's packets from their fields, the limits, the order of the refusals, and what is left alone. */
 static void builder(void) {
-    uint8_t out[512], many[256] = {0};
+    uint8_t many[256] = {0};
     memset(out, 0x5A, sizeof out);
     tz_built b = tz_build(1, 0, 20, many, 0, 0, out, sizeof g);
     int right = b.answer == TZ_BUILT && b.written == sizeof g && memcmp(out, g, sizeof g) == 0;
@@ -99,11 +128,14 @@ static void builder(void) {
 }
 
 int main(void) {
-    uint8_t out[512];
+    check("the archive's number is the header's", tz_abi() == TZ_ABI && tz_same_abi() == 1);
     tz_loaded l = tz_load(c, sizeof c);
-    check("configuration C loads", l.answer == TZ_LOADED && l.offset == 0 && l.config.nroutes == 2 && l.config.nprotected == 1
-        && l.config.nrows == 1 && l.config.base == 100 && l.config.dests[1] == 2 && l.config.protected_ids[0] == 20
+    const tz_numbers *n = &l.config.numbers;
+    check("configuration C loads", l.answer == TZ_LOADED && l.offset == 0 && n->ground == 1 && n->fault == 2 && n->base == 100
+        && n->nroutes == 2 && n->nprotected == 1 && n->nrows == 1 && l.config.dests[1] == 2 && l.config.protected_ids[0] == 20
         && l.config.args[0] == 0xAA && l.run.armed == 0 && l.run.states[0] == 1);
+    tz_config loaded;
+    memcpy(&loaded, &l.config, sizeof loaded);
 
     /* the session, step by step */
     uint8_t recording[512];
@@ -112,12 +144,11 @@ int main(void) {
     tz_run run = l.run;
     for (size_t k = 0; k < 12; k++) {
         memset(out, 0x5A, sizeof out);
-        tz_stepped s = step(l.config, run, &session[k], out, TZ_ROOM);
-        all &= same(s.answer, session[k].want);
-        untouched &= still(out + s.answer.written, sizeof out - s.answer.written, 0x5A);
+        tz_answer a = step(&l.config, &run, &session[k], out, TZ_ROOM);
+        all &= same(a, session[k].want);
+        untouched &= still(out + a.written, sizeof out - a.written, 0x5A);
         if (k == 8) sent &= memcmp(out, "\x00\x01\x00\x0A\x01\x05", 6) == 0;
         if (k == 9) sent &= memcmp(out, "\x00\x02\x00\x0A\x01\xAA", 6) == 0;
-        run = s.run;
         size_t size = session[k].kind == PACKET ? session[k].length : session[k].kind == FAULT ? 2 : 0;
         recording[end++] = (uint8_t)size;
         recording[end++] = 0;
@@ -135,6 +166,9 @@ int main(void) {
     check("bytes behind the written part stay", untouched);
     check("the counters", run.counts.a == 6 && run.counts.r == 0 && run.counts.d == 3 && run.counts.p == 2
         && run.counts.u == 0 && run.counts.i == 0 && run.counts.f == 3);
+    check("the fault row is latched, the path unarmed", run.states[0] == 2 && run.armed == 0 && run.ticks == 0);
+    tz_run again = run;
+    check("a tick behind it", is_bare(tz_step_tick(&l.config, &again), TZ_TICK) && same_run(&again, &run));
 
     /* the same session as a recording */
     static uint8_t replies[12 * TZ_REPLY + 40];
@@ -152,14 +186,18 @@ int main(void) {
     check("the recording's answers", told && at == r.wrote && still(replies + at, sizeof replies - at, 0x5A));
 
     /* in two pieces, the second from where the first stopped */
-    tz_piece first = tz_resume(l.config, l.run, recording, 40, replies, sizeof replies);
-    tz_piece second = tz_resume(l.config, first.run, recording + first.read, end - first.read, replies, sizeof replies);
-    check("the recording in two pieces", first.stop == TZ_PAST_END && first.count + second.count == 12 && second.stop == 0
-        && same_run(&second.run, &run));
+    again = l.run;
+    tz_piece first = tz_resume(&l.config, &again, recording, 40, replies, sizeof replies);
+    check("a first piece, cut in its fourth record", first.stop == TZ_PAST_END && first.read == 33 && first.count == 3
+        && first.wrote == 18 && again.armed == 1 && again.ticks == 1 && again.counts.a == 2 && again.counts.p == 1);
+    tz_piece second = tz_resume(&l.config, &again, recording + first.read, end - first.read, replies, sizeof replies);
+    check("the recording in two pieces", first.count + second.count == 12 && first.wrote + second.wrote == r.wrote
+        && second.stop == 0 && second.read == end - first.read && same_run(&again, &run));
     memset(replies, 0x5A, sizeof replies);
-    first = tz_resume(l.config, l.run, recording, end, replies, TZ_REPLY - 1);
+    again = l.run;
+    first = tz_resume(&l.config, &again, recording, end, replies, TZ_REPLY - 1);
     check("too little room for one event", first.stop == TZ_NO_ROOM && first.read == 0 && first.count == 0 && first.wrote == 0
-        && same_run(&first.run, &l.run) && still(replies, sizeof replies, 0x5A));
+        && same_run(&again, &l.run) && still(replies, sizeof replies, 0x5A));
     r = tz_replay(c, 41, recording, end, replies, sizeof replies);
     check("a refused image", r.load == TZ_PAST_END && r.offset == 30 && r.stop == 0 && r.read == 0 && r.count == 0
         && r.wrote == 0 && still(replies, sizeof replies, 0x5A));
@@ -176,23 +214,27 @@ int main(void) {
     builder();
 
     /* what the boundary itself refuses */
-    memset(out, 0x5A, sizeof out);
-    tz_run bad = l.run;
-    bad.armed = 2;
-    tz_stepped s = tz_step_packet(l.config, bad, pad, sizeof pad, out, sizeof out);
-    int kept = is_bare(s.answer, TZ_BAD_STATE) && same_run(&s.run, &bad);
-    s = tz_step_fault(l.config, bad, 7, out, sizeof out);
-    kept &= is_bare(s.answer, TZ_BAD_STATE) && same_run(&s.run, &bad);
-    s = tz_step_tick(l.config, bad);
-    kept &= is_bare(s.answer, TZ_BAD_STATE) && same_run(&s.run, &bad);
-    first = tz_resume(l.config, bad, recording, end, out, sizeof out);
-    kept &= first.stop == TZ_BAD_STATE && first.read == 0 && same_run(&first.run, &bad);
-    check("an armed byte that is no bool", kept && still(out, sizeof out, 0x5A));
+    int kept = 1;
+    for (unsigned armed = 2; armed < 256; armed++) {
+        tz_run bad = l.run;
+        bad.armed = (uint8_t)armed;
+        kept &= all_refuse(&l.config, &bad, recording, end);
+    }
+    check("an armed byte that is no bool", kept);
+    tz_run latched = run;
+    latched.states[0] = 3;
+    check("a run from elsewhere", all_refuse(&l.config, &latched, recording, end));
     tz_config wild = l.config;
-    wild.nroutes = (size_t)-1;
-    s = tz_step_packet(wild, l.run, pad, sizeof pad, out, sizeof out);
-    check("a configuration from elsewhere", is_bare(s.answer, TZ_BAD_STATE) && same_run(&s.run, &l.run));
-    s = tz_step_packet(l.config, l.run, pad, sizeof pad, out, TZ_ROOM - 1);
-    check("room 259", is_bare(s.answer, TZ_NO_ROOM) && same_run(&s.run, &l.run) && still(out, sizeof out, 0x5A));
+    wild.numbers.nroutes = (size_t)-1;
+    again = run;
+    check("a configuration from elsewhere", all_refuse(&wild, &again, recording, end));
+    wild = l.config;
+    wild.args[511] = 1;
+    check("a place not in use that is not 0", all_refuse(&wild, &again, recording, end));
+    lend(&l.config, &again);
+    kept = is_bare(tz_step_packet(&l.config, &again, pad, sizeof pad, out, TZ_ROOM - 1), TZ_NO_ROOM) && nothing_changed(&again);
+    kept &= is_bare(tz_step_fault(&l.config, &again, 7, out, TZ_ROOM - 1), TZ_NO_ROOM) && nothing_changed(&again);
+    check("room 259", kept);
+    check("the configuration is as it was loaded", memcmp(&loaded, &l.config, sizeof loaded) == 0);
     return failed;
 }

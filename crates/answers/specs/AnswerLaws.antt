@@ -7,10 +7,11 @@ use native.Mathlib.Omega.{arith}
 use lib.Dec.{ltb}
 use lib.ListN.{length, getD, take}
 use borrow.Author.Tests.{eq-eqb, ne-eqb, lt-ltb, le-ltb}
+use Rattle.state.specs.declared.types.Numbers.{Numbers}
 use Rattle.state.specs.Tables.{Route, FaultRow, routeId, faultId, listed, routeAt}
 use Rattle.state.specs.Rules.{member}
 use Rattle.state.specs.Lookup.{placeIn, Column}
-use Rattle.state.specs.LookupLaws.{is-member, no-member, below-member}
+use Rattle.state.specs.LookupLaws.{is-member, no-member}
 use Rattle.state.specs.ArrayLaws.{map-listed, column-is}
 use Rattle.faultstates.specs.FaultStates.{enabled, stateFor}
 use Rattle.answers.specs.Answers.{blocked, ownAnswer, routeAnswer, answerFor, faultAnswer}
@@ -19,22 +20,22 @@ use Rattle.answers.specs.OwnLaws.{own-not-10}
 use Rattle.answers.specs.RowLaws.{listed-at, dest-at}
 
 -- the arrays of a state that keeps its rules, as they are lent
-pub record Lent (protected : List ℕ) (nprotected : ℕ) (faultids : List ℕ) (nrows : ℕ) (routeids dests : List ℕ) (nroutes : ℕ) : Type 0 where
-  pub protected-ids : Column 32 protected nprotected
-  pub fault-ids : Column 32 faultids nrows
-  pub route-ids : Column 128 routeids nroutes
+pub record Lent (n : Numbers) (routeids dests protected faultids : List ℕ) : Type 0 where
+  pub route-ids : Column 128 routeids (n .nroutes)
   pub dests-long : length dests ≡ 128
+  pub protected-ids : Column 32 protected (n .nprotected)
+  pub fault-ids : Column 32 faultids (n .nrows)
 
 -- ---- protection
 
-module _ {protected : List ℕ} {n : ℕ} (c : Column 32 protected n) (id : ℕ) where
-  pub armed-free : false ≡ blocked (take n protected) true id
+module _ (protected : List ℕ) (id : ℕ) where
+  pub armed-free : false ≡ blocked protected true id
   unfolding blocked
   armed-free = refl
 
-  pub unarmed-blocked : (k : ℕ) → k ≡ placeIn id (take n protected) → ltb k n ≡ blocked (take n protected) false id
+  pub unarmed-blocked : member id protected ≡ blocked protected false id
   unfolding blocked
-  unarmed-blocked k e = below-member c id k e
+  unarmed-blocked = refl
 
 -- ---- routes
 

@@ -2,7 +2,7 @@
 use mathlib.Core.Path.{_≡_, refl, sym}
 use mathlib.Core.Bool.{Bool, true, false, cond, not, _&&_, _||_}
 use mathlib.Core.List.{List, [], _∷_}
-use Prim.Native.Nat.{ℕ, _+_, _-_, _≤_}
+use Prim.Native.Nat.{ℕ, _+_, _-_, _<_, _≤_}
 use native.Mathlib.Omega.{arith}
 use lib.Dec.{leb, eqb}
 use lib.ListN.{length, List·getD-eq-default}
@@ -27,6 +27,13 @@ module _ (base id : ℕ) where
   pub number-own : own base id ≡ true → id - base ≡ ownNumber base id
   unfolding ownNumber
   number-own e = simp e
+
+  -- so the number says whether it is one
+  pub own-below : {k : ℕ} → k ≡ ownNumber base id → own base id ≡ true → k < 8
+  own-below e o = omega (arith, e, number-own o, own-range o)
+
+  pub own-above : own base id ≡ false → 8 ≤ ownNumber base id
+  own-above o = omega (arith, number-none o)
 
 -- ---- above 7
 

@@ -1,9 +1,6 @@
 // The path's own commands: which one an id selects, what it takes, and its answer.
 ghost use mathlib.Core.Path.{_≡_};
-ghost use lib.ListN.{take};
-ghost use Rattle.state.specs.Lookup.{Column};
 ghost use Rattle.answers.specs.Own.{ownNumber, argsWanted, onRow, faultArg};
-ghost use Rattle.answers.specs.Answers.{ownAnswer};
 
 // An own command: the argument bytes that it takes, and whether it acts on the row of a fault id.
 pub struct Command {
@@ -76,26 +73,4 @@ pub fn fault_arg(args: &[u8]) -> u16
     ensures { λ r. ⌜ r ≡ faultArg (now (args .entry)) ⌝ }
 {
     wire::word::big(wire::word::byte_at(args, 0), wire::word::byte_at(args, 1))
-}
-
-// The answer to own command k: 31, 32, 11 or 12.
-// internal: for the packet step, whose fault ids keep their rules.
-pub fn answer(k: u8, args: &[u8], ids: &[u16; 32], n: usize) -> u8
-    requires { ⌜ Column 32 (now ids) n ⌝ }
-    ensures { λ r. ⌜ r ≡ ownAnswer (take n (now (ids .entry))) k (now (args .entry)) ⌝ }
-{
-    let c = selected(k);
-    if args.len() != c.wanted {
-        return 31;
-    }
-    if c.row {
-        if lookup::place(ids, n, fault_arg(args)) >= n {
-            return 32;
-        }
-        return 12;
-    }
-    if k == 0 {
-        return 11;
-    }
-    12
 }

@@ -1,16 +1,18 @@
--- Laws of walks over tables: what stands at a place, and what a walk that has passed the rows before it keeps true.
+-- Laws of walks over arrays: what stands at a place, and what a walk that has passed the places before it keeps true.
 use mathlib.Core.Path.{_≡_, refl, sym, ap, _∙_}
-use mathlib.Core.Bool.{Bool, true, false, not, _&&_, and-false, and-true}
-use mathlib.Core.List.{List, [], _∷_, map}
+use mathlib.Core.Bool.{Bool, true, false, not, _&&_, _||_, and-false, and-true, and-assoc}
+use mathlib.Core.List.{List, [], _∷_}
 use Prim.Native.Nat.{ℕ, zero, suc, _+_, _-_, _*_, _<_, _≤_}
 use native.Mathlib.Numerals.{add-one}
 use native.Mathlib.Omega.{arith}
-use lib.Dec.{leb, eqb}
+use lib.Dec.{leb, ltb, eqb, leb·zero}
 use lib.ListN.{length, getD, take, drop, length-take, drop-of-length-le}
 use lib.Seq.{drop-cons, drop-drop, getD-take}
-use borrow.Author.Tests.{le-leb, lt-leb, not-true, not-false}
-use Rattle.state.specs.Tables.{Route, FaultRow, routeId, faultId, listed, routeAt, rowAt}
-use Rattle.state.specs.Test.{risingAll, clear, argsClear, routePasses, protectedPasses, rowPasses, routesKept, protectedKept, rowsKept, stateOk, statesOk}
+use borrow.Author.Tests.{le-leb, lt-leb, lt-ltb, le-ltb, leb-true, leb-false, not-true, not-false}
+use Rattle.state.specs.Rules.{own}
+use Rattle.state.specs.Test.{clear, argsClear}
+use Rattle.state.specs.KeepsLaws.{split}
+use Rattle.arraycheck.specs.Each.{each, rises, foreign}
 
 -- ---- the test `if !r` of a result r that is known
 
@@ -31,92 +33,89 @@ id-at xs n k (l, h) = item-at (take n xs) k (simp length-take (omega arith)) ∙
 pub past-ids : (xs : List ℕ) (n k : ℕ) → n ≤ k → drop k (take n xs) ≡ []
 past-ids xs n k l = drop-of-length-le (take n xs) {i = k} (simp length-take (omega arith))
 
-module _ {A : Type 0} (f : ℕ → A) (n : ℕ) where
-  all-rows : listed f 0 n ≡ listed f 0 (n - 0)
-  all-rows = let e : n - 0 ≡ n = omega arith in rw e
+-- ---- a walk that gathers: w, the answer for all, is what it has gathered and what is left
 
-  module _ (k : ℕ) where
-    row-at : k < n → listed f k (n - k) ≡ f k ∷ listed f (k + 1) (n - (k + 1))
-    row-at l = let e : n - k ≡ suc (n - (k + 1)) = omega arith in rw (e, add-one k)
+pub record Gathered (w left ok : Bool) : Type 0 where
+  pub rest : w ≡ (ok && left)
 
-    past-rows : n ≤ k → listed f k (n - k) ≡ []
-    past-rows l = let e : n - k ≡ 0 = omega arith in rw e
+pub unwalked : {w : Bool} → Gathered w w true
+unwalked = record { rest = refl }
 
--- the first n of a list, one by one
-ids-from : (xs : List ℕ) (k n : ℕ) → k + n ≤ length xs → take n (drop k xs) ≡ listed (λ i. getD xs i 0) k n
-ids-from xs k zero l = refl
-ids-from xs k (suc n) l = rw (drop-cons xs k 0 (omega arith)) (ap (λ (ys : List ℕ). getD xs k 0 ∷ ys) (ids-from xs (suc k) n (omega arith)))
+turned : (a t r : Bool) → (a && (t && r)) ≡ ((t && a) && r)
+turned true t r = ap (λ (b : Bool). b && r) (sym (and-true t))
+turned false t r = ap (λ (b : Bool). b && r) (sym (and-false t))
 
-pub ids-listed : (xs : List ℕ) (n : ℕ) → n ≤ length xs → take n xs ≡ listed (λ i. getD xs i 0) 0 n
-ids-listed xs n l = ids-from xs 0 n (omega arith)
+module _ {w left a : Bool} (h : Gathered w left a) where
+  pub on : {rest t s b : Bool} → Gathered left rest t → s ≡ t → b ≡ (s && a) → Gathered w rest b
+  on {rest} {t} n e f = record { rest = h .rest ∙ rw (n .rest, f, e) (turned a t rest) }
 
--- a column of the rows is the first of its array
-map-listed : {A : Type 0} (g : A → ℕ) (f : ℕ → A) (k n : ℕ) → map g (listed f k n) ≡ listed (λ i. g (f i)) k n
-map-listed g f k zero = refl
-map-listed g f k (suc n) = ap (λ (xs : List ℕ). g (f k) ∷ xs) (map-listed g f (suc k) n)
+  pub ends : left ≡ true → a ≡ w
+  ends e = sym (h .rest ∙ rw e (and-true a))
 
-pub routed-is : (ids dests : List ℕ) (n : ℕ) → n ≤ length ids → map routeId (listed (routeAt ids dests) 0 n) ≡ take n ids
-routed-is ids dests n l = map-listed routeId (routeAt ids dests) 0 n ∙ sym (ids-listed ids n l)
+  -- where a walk returns at the first that fails
+  pub refuses : a ≡ false → false ≡ w
+  refuses e = sym (h .rest ∙ rw e)
 
-pub faults-are : (ids responses latching counts args : List ℕ) (n : ℕ) → n ≤ length ids → map faultId (listed (rowAt ids responses latching counts args) 0 n) ≡ take n ids
-faults-are ids responses latching counts args n l = map-listed faultId (rowAt ids responses latching counts args) 0 n ∙ sym (ids-listed ids n l)
+  pub passes : {rest t : Bool} → a ≡ true → Gathered left rest t → Gathered w rest t
+  passes e n = record { rest = h .rest ∙ rw e (n .rest) }
 
--- ---- rising ids and a test of each row: the rows before k passed and leave this floor, so w, the answer for all n rows, is
--- the answer for the rest
+-- two walks side by side
+pub crossed : (a b c d : Bool) → ((a && b) && (c && d)) ≡ ((a && c) && (b && d))
+crossed true b c d = turned b c d ∙ and-assoc c b d
+crossed false b c d = refl
 
-module _ {A : Type 0} where
-  pub record Walked (id : A → ℕ) (p : A → Bool) (f : ℕ → A) (n : ℕ) (w : Bool) (low k : ℕ) : Type 0 where
-    pub short : low ≤ 65536
-    pub rest : w ≡ risingAll id p low (listed f k (n - k))
+pub beside : {v w left rest a b : Bool} → Gathered v left a → Gathered w rest b → Gathered (v && w) (left && rest) (a && b)
+beside {left} {rest} {a} {b} h k = record { rest = rw (h .rest, k .rest) (crossed a left b rest) }
 
-  module _ {id : A → ℕ} {p : A → Bool} {f : ℕ → A} {n : ℕ} {w : Bool} where
-    pub start : w ≡ risingAll id p 0 (listed f 0 n) → Walked id p f n w 0 0
-    start e = record { short = omega arith; rest = e ∙ rw (all-rows f n) }
+-- ---- the walks
 
-    module _ {low k : ℕ} (h : Walked id p f n w low k) where
-      walk-at : k < n → w ≡ (leb low (id (f k)) && (p (f k) && risingAll id p (suc (id (f k))) (listed f (k + 1) (n - (k + 1)))))
-      walk-at l = h .rest ∙ rw (row-at f n k l)
+module _ (xs : List ℕ) (k : ℕ) where
+  pub zero-at : k < length xs → Gathered (clear (drop k xs)) (clear (drop (k + 1) xs)) (eqb (getD xs k 0) 0)
+  zero-at l = record { rest = rw (item-at xs k l) }
 
-      pub sinks : (k < n) × (id (f k) < low) → false ≡ w
-      sinks (l, b) = sym (walk-at l ∙ simp (lt-leb low (id (f k)) b))
+  pub zero-past : length xs ≤ k → clear (drop k xs) ≡ true
+  zero-past l = rw (drop-of-length-le xs {i = k} l)
 
-      pub fails : k < n → p (f k) ≡ false → false ≡ w
-      fails l e = sym (walk-at l ∙ simp (e, and-false))
+module _ (p : ℕ → Bool) (xs : List ℕ) (n k : ℕ) where
+  pub each-at : (k < n) × (n ≤ length xs) → Gathered (each p (drop k (take n xs))) (each p (drop (k + 1) (take n xs))) (p (getD xs k 0))
+  each-at l = record { rest = rw (id-at xs n k l) }
 
-      pub passes : {x : ℕ} → (k < n) × (x ≡ id (f k)) × (low ≤ x) × (x < 65536) → p (f k) ≡ true → Walked id p f n w (x + 1) (k + 1)
-      passes {x} (l, q, b, s) e = record { short = omega arith; rest = walk-at l ∙ rw (add-one x, q) (simp (le-leb low (id (f k)) (omega arith), e)) }
+  pub each-past : n ≤ k → each p (drop k (take n xs)) ≡ true
+  each-past l = rw (past-ids xs n k l)
 
-      pub ends : n ≤ k → true ≡ w
-      ends l = sym (h .rest ∙ rw (past-rows f n k l))
+  module _ {w : Bool} (h : Gathered w (each p (drop k (take n xs))) true) (l : (k < n) × (n ≤ length xs)) where
+    pub each-refuses : p (getD xs k 0) ≡ false → false ≡ w
+    each-refuses e = refuses (passes h refl (each-at l)) e
 
-pub routes-start : (base : ℕ) {f : ℕ → Route} {n : ℕ} → Walked routeId (routePasses base) f n (routesKept base (listed f 0 n)) 0 0
-unfolding routesKept
-routes-start base = start refl
+    pub each-passes : p (getD xs k 0) ≡ true → Gathered w (each p (drop (k + 1) (take n xs))) true
+    each-passes e = passes (passes h refl (each-at l)) e unwalked
 
-pub protected-start : (base : ℕ) (ids ps : List ℕ) (m : ℕ) → m ≤ length ps
-    → Walked (λ id. id) (protectedPasses base ids) (λ i. getD ps i 0) m (protectedKept base ids (take m ps)) 0 0
-unfolding protectedKept
-protected-start base ids ps m l = start (rw (ids-listed ps m l))
+-- the first is above nothing, each other above the one before it
+pub rises-start : (xs : List ℕ) (n : ℕ) → Gathered (rises 0 (take n xs)) (rises (suc (getD xs 0 0)) (drop 1 (take n xs))) true
+rises-start xs zero = unwalked
+rises-start [] (suc n) = unwalked
+rises-start (x ∷ xs) (suc n) = record { rest = rw (leb·zero x) }
 
-pub rows-start : (ids : List ℕ) {f : ℕ → FaultRow} {n : ℕ} → Walked faultId (rowPasses ids) f n (rowsKept ids (listed f 0 n)) 0 0
-unfolding rowsKept
-rows-start ids = start refl
+module _ (xs : List ℕ) (n k : ℕ) where
+  pub rises-at : (1 ≤ k) × (k < n) × (n ≤ length xs)
+      → Gathered (rises (suc (getD xs (k - 1) 0)) (drop k (take n xs))) (rises (suc (getD xs (k + 1 - 1) 0)) (drop (k + 1) (take n xs))) (ltb (getD xs (k - 1) 0) (getD xs k 0))
+  rises-at l = let e : k + 1 - 1 ≡ k = omega arith in record { rest = rw (id-at xs n k (omega arith), e) }
 
--- ---- zeros: what was gathered of those before ys
+  pub rises-past : (low : ℕ) → n ≤ k → rises low (drop k (take n xs)) ≡ true
+  rises-past low l = rw (past-ids xs n k l)
 
-pub record Zeroed (xs ys : List ℕ) (ok : Bool) : Type 0 where
-  pub rest : clear xs ≡ (ok && clear ys)
+-- ---- an id that is not own is below own base, or above the last own id
 
-gathered : (a t r : Bool) → (a && (t && r)) ≡ ((t && a) && r)
-gathered true t r = ap (λ (b : Bool). b && r) (sym (and-true t))
-gathered false t r = ap (λ (b : Bool). b && r) (sym (and-false t))
+above : (a b : ℕ) → ltb b a ≡ not (leb a b)
+above a b = split (ltb b a ≡ not (leb a b)) (leb a b) (λ e. simp (e, le-ltb b a (leb-true a b e))) (λ e. simp (e, lt-ltb b a (leb-false a b e)))
 
-module _ {xs ys : List ℕ} {a : Bool} (h : Zeroed xs ys a) where
-  pub zero-on : {zs : List ℕ} {x : ℕ} {b : Bool} → ys ≡ x ∷ zs → b ≡ (eqb x 0 && a) → Zeroed xs zs b
-  zero-on {zs} {x} e f = record { rest = h .rest ∙ rw (e, f) (gathered a (eqb x 0) (clear zs)) }
+not-both : (a b : Bool) → (not a || not b) ≡ not (a && b)
+not-both true b = refl
+not-both false b = refl
 
-  pub zero-ends : ys ≡ [] → a ≡ clear xs
-  zero-ends e = sym (h .rest ∙ rw e (and-true a))
+pub is-foreign : (base id : ℕ) → (ltb id base || ltb (base + 7) id) ≡ foreign base id
+unfolding own
+is-foreign base id = rw (above base id, above id (base + 7)) (not-both (leb base id) (leb id (base + 7)))
 
 -- ---- argument bytes, row by row
 
@@ -153,26 +152,3 @@ module _ {counts : List ℕ} {n : ℕ} {args : List ℕ} {k : ℕ} (h : ArgsWalk
 
   pub args-end : n ≤ k → clear (drop (16 * n) args) ≡ argsClear (take n counts) args
   args-end l = let e : k ≡ n = omega (arith, h .upto) in sym (h .rest ∙ rw (e, past-ids counts n n (omega arith)))
-
--- ---- fault states, row by row
-
-pub record StatesWalked (f : ℕ → FaultRow) (n : ℕ) (ss : List ℕ) (k : ℕ) : Type 0 where
-  pub upto : k ≤ n
-  pub rest : statesOk (listed f 0 n) ss ≡ statesOk (listed f k (n - k)) (drop k ss)
-
-pub states-start : {f : ℕ → FaultRow} {n : ℕ} {ss : List ℕ} → StatesWalked f n ss 0
-states-start {f} {n} = record { upto = omega arith; rest = rw (all-rows f n) }
-
-module _ {f : ℕ → FaultRow} {n : ℕ} {ss : List ℕ} {k : ℕ} (h : StatesWalked f n ss k) where
-  module _ (l : (k < n) × (n ≤ length ss)) where
-    states-at : statesOk (listed f 0 n) ss ≡ (stateOk (f k .latching) (getD ss k 0) && statesOk (listed f (k + 1) (n - (k + 1))) (drop (k + 1) ss))
-    states-at = h .rest ∙ rw (row-at f n k (l .0), item-at ss k (omega arith))
-
-    pub state-fails : stateOk (f k .latching) (getD ss k 0) ≡ false → false ≡ statesOk (listed f 0 n) ss
-    state-fails e = sym (states-at ∙ simp e)
-
-    pub state-passes : stateOk (f k .latching) (getD ss k 0) ≡ true → StatesWalked f n ss (k + 1)
-    state-passes e = record { upto = omega arith; rest = states-at ∙ simp e }
-
-  pub states-end : n ≤ k → clear (drop n ss) ≡ statesOk (listed f 0 n) ss
-  states-end l = let e : k ≡ n = omega (arith, h .upto) in sym (h .rest ∙ rw (e, past-rows f n n (omega arith)))

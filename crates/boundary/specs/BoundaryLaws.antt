@@ -10,15 +10,19 @@ use borrow.Author.Tests.{eq-eqb, ne-eqb, le-leb, lt-leb}
 use Rattle.packetrules.specs.Judge.{refusalOf, argumentsOf, argumentsAt}
 use Rattle.state.specs.declared.types.Config.{Config}
 use Rattle.state.specs.declared.types.Run.{Run}
-use Rattle.state.specs.Tables.{Tables, tablesOf}
+use Rattle.state.specs.declared.types.Arm.{Arm}
+use Rattle.state.specs.declared.types.Counts.{Counts}
+use Rattle.state.specs.Tables.{tablesOf, runFrom}
 use Rattle.dispatch.specs.Dispatch.{over}
-use Rattle.steprules.specs.declared.types.Stepped.{Stepped}
-use Rattle.steprules.specs.Step.{packetStepOf, packetOutput, tickStepOf, faultStepOf, faultOutput}
-use Rattle.replayrules.specs.declared.types.Piece.{Piece}
-use Rattle.replayrules.specs.Replay.{pieceOf, pieceBytes}
+use Rattle.steprules.specs.declared.types.Left.{Left}
+use Rattle.steprules.specs.Step.{packetOutput, tickStepOf, faultOutput}
+use Rattle.steprules.specs.StepLaws.{packet-unsent}
+use Rattle.steprules.specs.FaultStepLaws.{fault-unsent}
+use Rattle.steprules.specs.Lent.{stepLeft, PacketLeaves, FaultLeaves}
+use Rattle.replayrules.specs.declared.types.Reached.{Reached}
+use Rattle.replayrules.specs.Replay.{Resumes}
 use Rattle.boundary.specs.declared.types.Saved.{Saved}
-use Rattle.boundary.specs.declared.types.Stepping.{Stepping}
-use Rattle.boundary.specs.Boundary.{inward, told, partOf, handed, refusedCall, packetCall, tickCall, faultCall, portion, idlePortion, resumeCall, resumeBytes}
+use Rattle.boundary.specs.Boundary.{armInward, told, partOf, handed, packetCall, tickCall, faultCall, portion, resumeCall, resumeBytes, savedFrom, leftOutward, refusedLeft, stepping, PacketCalls, FaultCalls, reachedOutward, refusedReached, ResumeCalls}
 
 pub byte-is : (b : Bool) → boolByte b ≡ cond b 1 0
 byte-is true = refl
@@ -37,57 +41,51 @@ module _ (p : List ℕ) where
 
 -- ---- calls
 
-module _ (c : Config) (s : Saved) where
+module _ (c : Config) (armed ticks : ℕ) (counts : Counts) (states : List ℕ) where
+  abbrev s : Saved
+  s = savedFrom armed ticks counts states
+
   -- neither 0 nor 1
-  module _ (h : 1 < s .armed) where
+  module _ (h : 1 < armed) where
     untold : told s ≡ false
-    untold = lt-leb (s .armed) 1 h
+    untold = lt-leb armed 1 h
 
-    pub packet-untold : (p : List ℕ) (room : ℕ) → refusedCall s ≡ packetCall c s p room
+    pub packet-untold : (p out : List ℕ) → PacketCalls c s p out (refusedLeft armed ticks counts) states out
     unfolding packetCall
-    packet-untold p room = simp untold
+    packet-untold p out = record { step = simp untold; output = packet-unsent (tablesOf c) p out 20 20 refl refl }
 
-    pub tick-untold : refusedCall s ≡ tickCall c s
+    pub tick-untold : stepping (refusedLeft armed ticks counts) states ≡ tickCall c s
     unfolding tickCall
     tick-untold = simp untold
 
-    pub fault-untold : (f room : ℕ) → refusedCall s ≡ faultCall c s f room
+    pub fault-untold : (f : ℕ) (out : List ℕ) → FaultCalls c s f out (refusedLeft armed ticks counts) states out
     unfolding faultCall
-    fault-untold f room = simp untold
+    fault-untold f out = record { step = simp untold; output = fault-unsent (tablesOf c) f out 20 20 refl refl }
 
-    pub resume-untold : (recording out : List ℕ) → (idlePortion s ≡ resumeCall c s recording (length out)) × (out ≡ over (resumeBytes c s recording (length out)) out)
+    pub resume-untold : (recording out : List ℕ) → ResumeCalls c s recording out (refusedReached armed ticks counts) states out
     unfolding resumeCall resumeBytes
-    resume-untold recording out = simp untold (refl, refl)
+    resume-untold recording out = record { told = simp untold; output = simp untold }
 
   -- 0 or 1: the path's own answer, handed out
-  module _ (h : s .armed ≤ 1) {run : Run} (i : run ≡ inward s) where
+  module _ (h : armed ≤ 1) where
     is-told : told s ≡ true
-    is-told = le-leb (s .armed) 1 h
+    is-told = le-leb armed 1 h
 
-    pub packet-told : (p : List ℕ) (room : ℕ) {r : Stepped} → r ≡ packetStepOf c run p room → {x : Stepping} → x ≡ handed r → x ≡ packetCall c s p room
+    abbrev run : Run
+    run = runFrom (armInward armed ticks) counts states
+
+    pub packet-told : (p out : List ℕ) (l : Left) (after left : List ℕ) → PacketLeaves c run p out l after left → PacketCalls c s p out (leftOutward l) after left
     unfolding packetCall
-    packet-told p room e o = o ∙ rw (e, i) (simp is-told)
+    packet-told p out l after left e = record { step = simp is-told (ap handed (e .step)); output = e .output }
 
-    pub tick-told : {r : Stepped} → r ≡ tickStepOf c run → {x : Stepping} → x ≡ handed r → x ≡ tickCall c s
+    pub tick-told : (l : Left) → stepLeft l states ≡ tickStepOf c run → stepping (leftOutward l) states ≡ tickCall c s
     unfolding tickCall
-    tick-told e o = o ∙ rw (e, i) (simp is-told)
+    tick-told l e = simp is-told (ap handed e)
 
-    pub fault-told : (f room : ℕ) {r : Stepped} → r ≡ faultStepOf c run f room → {x : Stepping} → x ≡ handed r → x ≡ faultCall c s f room
+    pub fault-told : (f : ℕ) (out : List ℕ) (l : Left) (after left : List ℕ) → FaultLeaves c run f out l after left → FaultCalls c s f out (leftOutward l) after left
     unfolding faultCall
-    fault-told f room e o = o ∙ rw (e, i) (simp is-told)
+    fault-told f out l after left e = record { step = simp is-told (ap handed (e .step)); output = e .output }
 
-    pub resume-told : (recording out : List ℕ) {p : Piece} → p ≡ pieceOf c run recording (length out) → {left : List ℕ} → left ≡ over (pieceBytes c run recording (length out)) out
-        → (portion p ≡ resumeCall c s recording (length out)) × (left ≡ over (resumeBytes c s recording (length out)) out)
+    pub resume-told : (recording out : List ℕ) (r : Reached) (after left : List ℕ) → Resumes c run recording out r after left → ResumeCalls c s recording out (reachedOutward r) after left
     unfolding resumeCall resumeBytes
-    resume-told recording out e o = simp is-told (ap portion (e ∙ ap (λ (r : Run). pieceOf c r recording (length out)) i), o ∙ ap (λ (r : Run). over (pieceBytes c r recording (length out)) out) i)
-
--- the output goes by the answer that is handed out
-module _ (r : Stepped) {x : Stepping} (o : x ≡ handed r) where
-  same-answer : r .answer .answer ≡ x .answer .answer
-  same-answer = ap (λ (y : Stepping). y .answer .answer) (sym o)
-
-  pub packet-output : (t : Tables) (p out : List ℕ) → packetOutput t (r .answer .answer) p out ≡ packetOutput t (x .answer .answer) p out
-  packet-output t p out = ap (λ n. packetOutput t n p out) same-answer
-
-  pub fault-output : (t : Tables) (f : ℕ) (out : List ℕ) → faultOutput t (r .answer .answer) f out ≡ faultOutput t (x .answer .answer) f out
-  fault-output t f out = ap (λ n. faultOutput t n f out) same-answer
+    resume-told recording out r after left e = record { told = simp is-told (ap portion (e .told)); output = simp is-told (e .output) }

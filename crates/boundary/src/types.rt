@@ -1,13 +1,14 @@
-// What crosses the C boundary where the path's own type can't. A caller may hand over a byte that is no bool, so the run is
-// saved with a number in its place.
+// What crosses the C boundary where the path's own type can't. A caller may hand over a byte that is no bool, so the arm record
+// crosses with a number in its place. Columns and fault states are lent and cross as pointers; the rest goes by value.
+use replayrules::types::Reached;
 use state::types::Arm;
 use state::types::Config;
 use state::types::Counts;
 use state::types::Run;
 use steprules::types::Answer;
-use steprules::types::Stepped;
+use steprules::types::Left;
 ghost use mathlib.Core.Path.{_≡_};
-ghost use Rattle.boundary.specs.Boundary.{inward, outward, handed, refusedCall};
+ghost use Rattle.boundary.specs.Boundary.{armInward, outward, leftOutward, reachedOutward, refusedLeft, refusedReached};
 
 // A run as C keeps it: armed is 0 or 1, and a state with any other number breaks its rules.
 #[repr(C)]
@@ -34,36 +35,34 @@ pub struct Loading {
     pub run: Saved,
 }
 
-// What a step hands back.
+// What a step hands back; the fault states are left where they were lent.
 #[repr(C)]
-pub struct Stepping {
-    pub run: Saved,
+pub struct Handed {
+    pub armed: u8,
+    pub ticks: u16,
+    pub counts: Counts,
     pub answer: Answer,
 }
 
-// What a piece of a recording hands back.
+// What a piece of a recording hands back, the fault states as in `Handed`.
 #[repr(C)]
 pub struct Portion {
-    pub run: Saved,
+    pub armed: u8,
+    pub ticks: u16,
+    pub counts: Counts,
     pub stop: u8,
     pub read: usize,
     pub count: usize,
     pub wrote: usize,
 }
 
-// The run that a saved one stands for.
-pub fn run_in(saved: Saved) -> Run
-    ensures { λ r. ⌜ r ≡ inward saved ⌝ }
+// The arm record that two numbers stand for.
+pub fn arm_in(armed: u8, ticks: u16) -> Arm
+    ensures { λ r. ⌜ r ≡ armInward armed ticks ⌝ }
 {
-    let counts = saved.counts;
-    let states = saved.states;
-    Run {
-        arm: Arm {
-            armed: saved.armed == 1,
-            ticks: saved.ticks,
-        },
-        counts,
-        states,
+    Arm {
+        armed: armed == 1,
+        ticks,
     }
 }
 
@@ -82,24 +81,61 @@ pub fn run_out(run: Run) -> Saved
     }
 }
 
-// A step's result to be handed out.
-pub fn step_out(s: Stepped) -> Stepping
-    ensures { λ r. ⌜ r ≡ handed s ⌝ }
+// What a step left, to be handed out.
+pub fn step_out(l: Left) -> Handed
+    ensures { λ r. ⌜ r ≡ leftOutward l ⌝ }
 {
-    let run = s.run;
-    let answer = s.answer;
-    Stepping {
-        run: run_out(run),
+    let left = l.arm;
+    let counts = l.counts;
+    let answer = l.answer;
+    Handed {
+        armed: left.armed as u8,
+        ticks: left.ticks,
+        counts,
         answer,
     }
 }
 
-// An armed number that is neither 0 nor 1: 20, and the run as it came.
-pub fn step_refused(saved: Saved) -> Stepping
-    ensures { λ r. ⌜ r ≡ refusedCall saved ⌝ }
+// An armed number that is neither 0 nor 1: 20, and all as it came.
+pub fn step_refused(armed: u8, ticks: u16, counts: Counts) -> Handed
+    ensures { λ r. ⌜ r ≡ refusedLeft armed ticks counts ⌝ }
 {
-    Stepping {
-        run: saved,
+    Handed {
+        armed,
+        ticks,
+        counts,
         answer: steprules::types::bare(20),
+    }
+}
+
+// What a piece of a recording came to, to be handed out.
+pub fn piece_out(r: Reached) -> Portion
+    ensures { λ p. ⌜ p ≡ reachedOutward r ⌝ }
+{
+    let last = r.arm;
+    let counts = r.counts;
+    Portion {
+        armed: last.armed as u8,
+        ticks: last.ticks,
+        counts,
+        stop: r.stop,
+        read: r.read,
+        count: r.count,
+        wrote: r.wrote,
+    }
+}
+
+// An armed number that is neither 0 nor 1: 20, nothing read, and all as it came.
+pub fn piece_refused(armed: u8, ticks: u16, counts: Counts) -> Portion
+    ensures { λ r. ⌜ r ≡ refusedReached armed ticks counts ⌝ }
+{
+    Portion {
+        armed,
+        ticks,
+        counts,
+        stop: 20,
+        read: 0,
+        count: 0,
+        wrote: 0,
     }
 }

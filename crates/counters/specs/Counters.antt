@@ -1,7 +1,7 @@
 -- Document 01, the answer table's column "counter". Counters wrap at 65,536.
 use mathlib.Core.Bool.{Bool, true, false, cond, _&&_, _||_}
 use Prim.Native.Nat.{ℕ, _+_, _%_}
-use lib.Dec.{eqb}
+use lib.Dec.{eqb, leb}
 use Rattle.state.specs.declared.types.Counts.{Counts}
 
 -- one more where the test holds
@@ -36,6 +36,14 @@ packetCounts n k c = cond (eqb n 12 && eqb k 1) noCounts (accepted n c)
 -- a rejected packet
 unfoldable pub rejectedCounts : Counts → Counts
 rejectedCounts c = record { a = c .a; r = up true (c .r); d = c .d; p = c .p; u = c .u; i = c .i; f = c .f }
+
+-- the answers of the judge, by which a packet is rejected
+abbrev pub rejection : ℕ → Bool
+rejection n = leb 22 n && leb n 29
+
+-- a packet by its answer alone, rejected or accepted; whether it was own command 1 is told
+unfoldable pub movedCounts : ℕ → Bool → Counts → Counts
+movedCounts n reset c = cond (rejection n) (rejectedCounts c) (cond (eqb n 12 && reset) noCounts (accepted n c))
 
 -- a fault with the answer n
 unfoldable pub faultCounts : ℕ → Counts → Counts

@@ -1,7 +1,8 @@
 // The seven counters: which of them a step moves. They wrap at 65,536.
 use state::types::Counts;
 ghost use mathlib.Core.Path.{_≡_};
-ghost use Rattle.counters.specs.Counters.{up, invalidAnswer, packetCounts, accepted, rejectedCounts, faultCounts};
+ghost use Prim.Native.Nat.{_<_};
+ghost use Rattle.counters.specs.Counters.{up, movedCounts, faultCounts};
 
 // One more where the test holds.
 pub fn bump(b: bool, x: u16) -> u16
@@ -13,15 +14,52 @@ pub fn bump(b: bool, x: u16) -> u16
     x
 }
 
-// After an accepted packet with the answer n and the own command k: a reset leaves zeros, its own count included.
-pub fn after_packet(c: Counts, n: u8, k: u8) -> Counts
-    ensures { λ r. ⌜ r ≡ packetCounts n k c ⌝ }
+// After a packet with the answer n; `reset` is whether it was own command 1. The answer that most packets get comes first, and
+// each way returns, so that a packet pays for the counters that it moves and for no others.
+pub fn after_packet(c: Counts, n: u8, reset: bool) -> Counts
+    ensures { λ r. ⌜ r ≡ movedCounts n reset c ⌝ }
 {
-    if n != 12 {
-        return after_accepted(c, n);
+    let mut next = c;
+    if n == 10 {
+        next.a = bump(true, c.a);
+        next.d = bump(true, c.d);
+        return next;
     }
-    if k != 1 {
-        return after_accepted(c, n);
+    if n < 22 {
+        return after_own(c, n, reset);
+    }
+    if n < 30 {
+        next.r = bump(true, c.r);
+        return next;
+    }
+    next.a = bump(true, c.a);
+    if n == 30 {
+        next.p = bump(true, c.p);
+        return next;
+    }
+    if n < 33 {
+        next.i = bump(true, c.i);
+        return next;
+    }
+    if n == 33 {
+        next.u = bump(true, c.u);
+        return next;
+    }
+    next
+}
+
+// After an own command that was taken, 11 or 12: a reset leaves zeros, its own count included.
+fn after_own(c: Counts, n: u8, reset: bool) -> Counts
+    requires { ⌜ (n < 22) × (n ≡ 10 → ⊥) ⌝ }
+    ensures { λ r. ⌜ r ≡ movedCounts n reset c ⌝ }
+{
+    let mut next = c;
+    next.a = bump(true, c.a);
+    if n != 12 {
+        return next;
+    }
+    if !reset {
+        return next;
     }
     Counts {
         a: 0,
@@ -34,48 +72,15 @@ pub fn after_packet(c: Counts, n: u8, k: u8) -> Counts
     }
 }
 
-// Those that an accepted packet with the answer n moves.
-pub fn after_accepted(c: Counts, n: u8) -> Counts
-    ensures { λ r. ⌜ r ≡ accepted n c ⌝ }
-{
-    Counts {
-        a: bump(true, c.a),
-        r: c.r,
-        d: bump(n == 10, c.d),
-        p: bump(n == 30, c.p),
-        u: bump(n == 33, c.u),
-        i: bump(invalid(n), c.i),
-        f: c.f,
-    }
-}
-
-// The answers that move I.
-fn invalid(n: u8) -> bool
-    ensures { λ r. ⌜ r ≡ invalidAnswer n ⌝ }
-{
-    if n == 31 {
-        return true;
-    }
-    n == 32
-}
-
-// After a rejected packet.
-pub fn after_rejected(c: Counts) -> Counts
-    ensures { λ r. ⌜ r ≡ rejectedCounts c ⌝ }
-{
-    let mut next = c;
-    next.r = bump(true, c.r);
-    next
-}
-
 // After a fault with the answer n.
 pub fn after_fault(c: Counts, n: u8) -> Counts
     ensures { λ r. ⌜ r ≡ faultCounts n c ⌝ }
 {
-    let d = bump(n == 10, c.d);
-    let f = bump(true, c.f);
     let mut next = c;
-    next.d = d;
-    next.f = f;
+    next.f = bump(true, c.f);
+    if n != 10 {
+        return next;
+    }
+    next.d = bump(true, c.d);
     next
 }

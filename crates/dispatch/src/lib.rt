@@ -1,10 +1,10 @@
-// The dispatch writer: the bytes of a command at the start of the output, for answer 10 and no other.
+// The dispatch writer: the bytes of a command at the start of the output.
 use wire::word::high;
 use wire::word::low;
 ghost use mathlib.Core.Path.{_≡_};
 ghost use Prim.Native.Nat.{_+_, _≤_};
 ghost use lib.ListN.{length};
-ghost use Rattle.dispatch.specs.Dispatch.{commandBytes, over, sent, for10};
+ghost use Rattle.dispatch.specs.Dispatch.{commandBytes, over};
 
 // Source, command id, argument count, arguments; returns the bytes written.
 // internal: for the steps, which have seen that there is room.
@@ -20,18 +20,6 @@ pub fn write(out: &mut [u8], source: u16, id: u16, args: &[u8]) -> u16
         args.len() as u8,
     ];
     wire::put::bytes(out, 0, &head);
-    wire::put::bytes(out, 5, args);
+    blocks::run(out, 5, args);
     5 + args.len() as u16
-}
-
-// The same for the answer 10; nothing and 0 for every other.
-// internal: as `write`.
-pub fn send(out: &mut [u8], n: u8, source: u16, id: u16, args: &[u8]) -> u16
-    requires { ⌜ (260 ≤ length (now out)) × (length (now args) ≤ 255) ⌝ }
-    ensures { λ r. ⌜ (r ≡ for10 n (5 + length (now (args .entry)))) × (now (out .exit) ≡ sent n source id (now (args .entry)) (now (out .entry))) ⌝ }
-{
-    if n != 10 {
-        return 0;
-    }
-    write(out, source, id, args)
 }

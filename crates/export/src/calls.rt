@@ -1,23 +1,32 @@
-// The functions that C calls. A slice is a pointer and a length there. Each takes any bytes, any configuration and any run.
+// The functions that C calls. A slice is a pointer and a length there, an array that is lent a pointer alone. Each takes any
+// bytes, any configuration and any run. A step is lent the columns of the configuration and the fault states, and copies none;
+// the header has a wrapper for each that takes a pointer to the configuration and one to the run.
 use boundary::types;
+use boundary::types::Handed;
 use boundary::types::Loading;
 use boundary::types::Part;
 use boundary::types::Portion;
-use boundary::types::Saved;
-use boundary::types::Stepping;
 use buildrules::types::Built;
 use packet::judge::Judged;
 use replayrules::types::Replayed;
-use state::types::Config;
+use state::types::Counts;
+use state::types::Numbers;
 ghost use mathlib.Core.Path.{_≡_};
 ghost use lib.ListN.{length};
 ghost use Rattle.packetrules.specs.Judge.{judgeOf};
-ghost use Rattle.state.specs.Tables.{tablesOf};
+ghost use Rattle.state.specs.Tables.{configFrom};
 ghost use Rattle.dispatch.specs.Dispatch.{over};
-ghost use Rattle.steprules.specs.Step.{packetOutput, faultOutput};
 ghost use Rattle.replayrules.specs.Replay.{replayOf, replayBytes};
 ghost use Rattle.buildrules.specs.Build.{given, builtOf, builtOutput};
-ghost use Rattle.boundary.specs.Boundary.{partOf, loadingOf, packetCall, tickCall, faultCall, resumeCall, resumeBytes};
+ghost use Rattle.boundary.specs.Boundary.{abi, partOf, loadingOf, tickCall, savedFrom, stepping, PacketCalls, FaultCalls, ResumeCalls};
+
+// Which structs and signatures these are: the header's TZ_ABI. It moves with every change of one.
+#[no_mangle]
+pub extern "C" fn tz_abi() -> u32
+    ensures { λ r. ⌜ r ≡ abi ⌝ }
+{
+    1
+}
 
 // The judge by itself.
 #[no_mangle]
@@ -79,68 +88,174 @@ pub extern "C" fn tz_load(image: &[u8]) -> Loading
 
 // The packet step.
 #[no_mangle]
-pub extern "C" fn tz_step_packet(
-    config: Config,
-    run: Saved,
+pub extern "C" fn tz_lent_packet<'a>(
+    numbers: Numbers,
+    routeids: &'a [u16; 128],
+    dests: &'a [u8; 128],
+    protected: &'a [u16; 32],
+    faultids: &'a [u16; 32],
+    responses: &'a [u16; 32],
+    latching: &'a [u8; 32],
+    argcounts: &'a [u8; 32],
+    args: &'a [u8; 512],
+    armed: u8,
+    ticks: u16,
+    counts: Counts,
+    states: &mut [u8; 32],
     packet: &[u8],
     out: &mut [u8],
-) -> Stepping
-    ensures step { λ r. ⌜ r ≡ packetCall config run (now (packet .entry)) (length (now (out .entry))) ⌝ }
-    ensures output { λ r. ⌜ now (out .exit) ≡ packetOutput (tablesOf config) (r .answer .answer) (now (packet .entry)) (now (out .entry)) ⌝ }
+) -> Handed
+    ensures { λ r. ⌜ PacketCalls
+        (configFrom numbers (now (routeids .entry)) (now (dests .entry)) (now (protected .entry)) (now (faultids .entry)) (now (responses .entry)) (now (latching .entry)) (now (argcounts .entry)) (now (args .entry)))
+        (savedFrom armed ticks counts (now (states .entry))) (now (packet .entry)) (now (out .entry)) r (now (states .exit)) (now (out .exit)) ⌝ }
 {
-    if 1 < run.armed {
-        return types::step_refused(run);
+    if 1 < armed {
+        return types::step_refused(armed, ticks, counts);
     }
-    types::step_out(steps::on_packet::step_packet(config, types::run_in(run), packet, out))
+    types::step_out(steps::on_packet::lent_packet(
+        numbers,
+        routeids,
+        dests,
+        protected,
+        faultids,
+        responses,
+        latching,
+        argcounts,
+        args,
+        types::arm_in(armed, ticks),
+        counts,
+        states,
+        packet,
+        out,
+    ))
 }
 
-// The tick step.
+// The tick step. It leaves the fault states, which are lent to be judged.
 #[no_mangle]
-pub extern "C" fn tz_step_tick(config: Config, run: Saved) -> Stepping
-    ensures { λ r. ⌜ r ≡ tickCall config run ⌝ }
+pub extern "C" fn tz_lent_tick<'a>(
+    numbers: Numbers,
+    routeids: &'a [u16; 128],
+    dests: &'a [u8; 128],
+    protected: &'a [u16; 32],
+    faultids: &'a [u16; 32],
+    responses: &'a [u16; 32],
+    latching: &'a [u8; 32],
+    argcounts: &'a [u8; 32],
+    args: &'a [u8; 512],
+    armed: u8,
+    ticks: u16,
+    counts: Counts,
+    states: &'a [u8; 32],
+) -> Handed
+    ensures { λ r. ⌜ stepping r (now (states .entry))
+        ≡ tickCall (configFrom numbers (now (routeids .entry)) (now (dests .entry)) (now (protected .entry)) (now (faultids .entry)) (now (responses .entry)) (now (latching .entry)) (now (argcounts .entry)) (now (args .entry)))
+        (savedFrom armed ticks counts (now (states .entry))) ⌝ }
 {
-    if 1 < run.armed {
-        return types::step_refused(run);
+    if 1 < armed {
+        return types::step_refused(armed, ticks, counts);
     }
-    types::step_out(steps::on_tick::step_tick(config, types::run_in(run)))
+    types::step_out(steps::on_tick::lent_tick(
+        numbers,
+        routeids,
+        dests,
+        protected,
+        faultids,
+        responses,
+        latching,
+        argcounts,
+        args,
+        types::arm_in(armed, ticks),
+        counts,
+        states,
+    ))
 }
 
 // The fault step.
 #[no_mangle]
-pub extern "C" fn tz_step_fault(config: Config, run: Saved, fault: u16, out: &mut [u8]) -> Stepping
-    ensures step { λ r. ⌜ r ≡ faultCall config run fault (length (now (out .entry))) ⌝ }
-    ensures output { λ r. ⌜ now (out .exit) ≡ faultOutput (tablesOf config) (r .answer .answer) fault (now (out .entry)) ⌝ }
+pub extern "C" fn tz_lent_fault<'a>(
+    numbers: Numbers,
+    routeids: &'a [u16; 128],
+    dests: &'a [u8; 128],
+    protected: &'a [u16; 32],
+    faultids: &'a [u16; 32],
+    responses: &'a [u16; 32],
+    latching: &'a [u8; 32],
+    argcounts: &'a [u8; 32],
+    args: &'a [u8; 512],
+    armed: u8,
+    ticks: u16,
+    counts: Counts,
+    states: &mut [u8; 32],
+    fault: u16,
+    out: &mut [u8],
+) -> Handed
+    ensures { λ r. ⌜ FaultCalls
+        (configFrom numbers (now (routeids .entry)) (now (dests .entry)) (now (protected .entry)) (now (faultids .entry)) (now (responses .entry)) (now (latching .entry)) (now (argcounts .entry)) (now (args .entry)))
+        (savedFrom armed ticks counts (now (states .entry))) fault (now (out .entry)) r (now (states .exit)) (now (out .exit)) ⌝ }
 {
-    if 1 < run.armed {
-        return types::step_refused(run);
+    if 1 < armed {
+        return types::step_refused(armed, ticks, counts);
     }
-    types::step_out(steps::on_fault::step_fault(config, types::run_in(run), fault, out))
+    types::step_out(steps::on_fault::lent_fault(
+        numbers,
+        routeids,
+        dests,
+        protected,
+        faultids,
+        responses,
+        latching,
+        argcounts,
+        args,
+        types::arm_in(armed, ticks),
+        counts,
+        states,
+        fault,
+        out,
+    ))
 }
 
 // A piece of a recording behind a state.
 #[no_mangle]
-pub extern "C" fn tz_resume(config: Config, run: Saved, recording: &[u8], out: &mut [u8]) -> Portion
-    ensures told { λ r. ⌜ r ≡ resumeCall config run (now (recording .entry)) (length (now (out .entry))) ⌝ }
-    ensures output { λ r. ⌜ now (out .exit) ≡ over (resumeBytes config run (now (recording .entry)) (length (now (out .entry)))) (now (out .entry)) ⌝ }
+pub extern "C" fn tz_lent_resume<'a>(
+    numbers: Numbers,
+    routeids: &'a [u16; 128],
+    dests: &'a [u8; 128],
+    protected: &'a [u16; 32],
+    faultids: &'a [u16; 32],
+    responses: &'a [u16; 32],
+    latching: &'a [u8; 32],
+    argcounts: &'a [u8; 32],
+    args: &'a [u8; 512],
+    armed: u8,
+    ticks: u16,
+    counts: Counts,
+    states: &mut [u8; 32],
+    recording: &[u8],
+    out: &mut [u8],
+) -> Portion
+    ensures { λ r. ⌜ ResumeCalls
+        (configFrom numbers (now (routeids .entry)) (now (dests .entry)) (now (protected .entry)) (now (faultids .entry)) (now (responses .entry)) (now (latching .entry)) (now (argcounts .entry)) (now (args .entry)))
+        (savedFrom armed ticks counts (now (states .entry))) (now (recording .entry)) (now (out .entry)) r (now (states .exit)) (now (out .exit)) ⌝ }
 {
-    if 1 < run.armed {
-        return Portion {
-            run,
-            stop: 20,
-            read: 0,
-            count: 0,
-            wrote: 0,
-        };
+    if 1 < armed {
+        return types::piece_refused(armed, ticks, counts);
     }
-    let piece = replay::replay::resume(config, types::run_in(run), recording, out);
-    let left = piece.run;
-    Portion {
-        run: types::run_out(left),
-        stop: piece.stop,
-        read: piece.read,
-        count: piece.count,
-        wrote: piece.wrote,
-    }
+    types::piece_out(replay::replay::lent_resume(
+        numbers,
+        routeids,
+        dests,
+        protected,
+        faultids,
+        responses,
+        latching,
+        argcounts,
+        args,
+        types::arm_in(armed, ticks),
+        counts,
+        states,
+        recording,
+        out,
+    ))
 }
 
 // A whole recording under an image.

@@ -1,16 +1,16 @@
 -- The constant table of the code follows its rule, by one computed test of all twelve entries; and a walk that clears each
 -- state.
-use mathlib.Core.Path.{_≡_, refl, sym, subst, _∙_}
+use mathlib.Core.Path.{_≡_, refl, sym, ap, subst, _∙_}
 use mathlib.Core.Bool.{Bool, true, false, _&&_}
 use mathlib.Core.List.{List, [], _∷_, append-nil}
 use Prim.Native.Nat.{ℕ, zero, suc, _+_, _<_, _≤_}
-use native.Mathlib.Nat.{zero-add}
+use native.Mathlib.Nat.{zero-add, add-zero}
 use native.Mathlib.Numerals.{add-one}
 use native.Mathlib.Decide.{ℕ-discrete}
 use native.Mathlib.Omega.{arith}
 use lib.Dec.{T, eqb, eqb→eq}
-use lib.ListN.{length, getD, set, length-set, length-map, List·getD-map, drop-of-length-le}
-use lib.Seq.{paste, paste-zero, paste-suc, take-length}
+use lib.ListN.{length, getD, set, drop, length-set, length-map, List·getD-map, drop-of-length-le}
+use lib.Seq.{paste, paste-zero, paste-suc, drop-paste, getD-drop, take-length}
 use Rattle.faultstates.specs.FaultStates.{clear, nextState, clearAll}
 
 -- a test at every number below a bound, and what it says of each
@@ -51,6 +51,12 @@ clear-long ss = length-map ss (λ (s : ℕ). nextState s clear)
 
 pub clear-start : (ss : List ℕ) → Cleared ss ss 0
 clear-start ss = record { upto = omega arith; is = paste-zero ss 0 (clearAll ss); long = refl }
+
+-- the place that is next is as it was
+pub clear-kept : {ss out : List ℕ} {k : ℕ} → Cleared ss out k → getD out k 0 ≡ getD ss k 0
+clear-kept {ss} {out} {k} h =
+    let d : drop (0 + k) out ≡ drop (0 + k) ss = rw (h .is) (drop-paste ss 0 (clearAll ss) k (omega arith) (omega (arith, h .upto, clear-long ss))) in
+    simp (zero-add, add-zero) at (sym (getD-drop (0 + k) out 0 0) ∙ ap (λ (l : List ℕ). getD l 0 0) d ∙ getD-drop (0 + k) ss 0 0)
 
 pub clear-next : {ss out : List ℕ} {k : ℕ} → Cleared ss out k → (v : ℕ) → k < length ss → v ≡ nextState (getD ss k 0) clear → Cleared ss (set out k v) (k + 1)
 clear-next {ss} {out} {k} h v l e =

@@ -1,7 +1,7 @@
 // The response states of fault rows.
 ghost use mathlib.Core.Path.{_≡_};
 ghost use Prim.Native.Nat.{ℕ, _≤_, _<_};
-ghost use lib.ListN.{getD};
+ghost use lib.ListN.{length, getD};
 ghost use Rattle.faultstates.specs.FaultStates.{nextState, rowAfter, clearAll};
 
 // The next state of a latching row, by state (disabled, enabled, latched) and event (enable, disable, clear, fault).
@@ -30,17 +30,15 @@ pub fn row_after(latching: u8, s: u8, e: u8) -> u8
     next(s, e)
 }
 
-// Each fault state cleared.
+// Each fault state cleared, where they stand.
 // internal: as `next`.
-pub fn clear_all(states: [u8; 32]) -> [u8; 32]
-    requires { ⌜ ((k : ℕ) → getD states k 0 ≤ 2) ⌝ }
-    ensures { λ r. ⌜ r ≡ clearAll states ⌝ }
+pub fn clear_all(states: &mut [u8; 32])
+    requires { ⌜ (length (now states) ≡ 32) × ((k : ℕ) → getD (now states) k 0 ≤ 2) ⌝ }
+    ensures { λ _. ⌜ now (states .exit) ≡ clearAll (now (states .entry)) ⌝ }
 {
-    let mut out = states;
     let mut k = 0;
     while k < 32 {
-        out[k] = next(states[k], 2);
+        states[k] = next(states[k], 2);
         k += 1;
     }
-    out
 }

@@ -1,30 +1,14 @@
 // The fault step of a state that keeps its rules.
-use state::types::Config;
-use state::types::Run;
+use state::types::Numbers;
 use steprules::types;
 use steprules::types::Answer;
-use steprules::types::Stepped;
 ghost use mathlib.Core.Path.{_≡_};
-ghost use Prim.Native.Nat.{_+_, _*_, _≤_, _<_};
+ghost use mathlib.Core.List.{List};
+ghost use Prim.Native.Nat.{ℕ, _+_, _*_, _≤_, _<_};
 ghost use lib.ListN.{length, take, drop};
-ghost use Rattle.state.specs.Tables.{tablesOf};
-ghost use Rattle.state.specs.Keeps.{Keeps};
 ghost use Rattle.dispatch.specs.Dispatch.{commandBytes, over};
-ghost use Rattle.steprules.specs.Step.{faultStep, faultOutput};
-ghost use Rattle.steprules.specs.FaultStepLaws.{silentStep};
-
-// A fault that sends nothing on, 34 or 13: F alone moves.
-fn silent(run: Run, n: u8) -> Stepped
-    ensures { λ r. ⌜ r ≡ silentStep run n ⌝ }
-{
-    let next = counters::after_fault(run.counts, n);
-    let mut left = run;
-    left.counts = next;
-    Stepped {
-        run: left,
-        answer: types::bare(n),
-    }
-}
+ghost use Rattle.state.specs.Tables.{configFrom};
+ghost use Rattle.steprules.specs.Moved.{RowsLent, FaultMoves};
 
 // Writes the command of row k, whose `count` argument bytes stand from place 16 k on.
 fn respond(out: &mut [u8], source: u16, id: u16, args: &[u8], k: usize, count: u8) -> u16
@@ -36,37 +20,46 @@ fn respond(out: &mut [u8], source: u16, id: u16, args: &[u8], k: usize, count: u
     dispatch::write(out, source, id, &args[from..end])
 }
 
-// The step of a state that keeps its rules, with room: the response goes straight to the router, even for a protected id.
-// internal: for `step_fault`, and for a loop that judges its state once.
-pub fn inner_fault(config: Config, run: Run, fault: u16, out: &mut [u8]) -> Stepped
-    requires { ⌜ Keeps config run × (260 ≤ length (now out)) ⌝ }
-    ensures step { λ r. ⌜ r ≡ faultStep (tablesOf config) run fault ⌝ }
-    ensures output { λ r. ⌜ now (out .exit) ≡ faultOutput (tablesOf config) (r .answer .answer) fault (now (out .entry)) ⌝ }
+// The step, with room: the response goes straight to the router, even for a protected id; it is routed, so its place is not
+// asked about. The columns are lent, and so are the
+// fault states; arm record and counters are for the caller. What it does is said of every configuration with these columns.
+// internal: for the steps that judge their state, and for a loop that judges its state once.
+pub fn inner_fault<'a>(
+    numbers: Numbers,
+    routeids: &'a [u16; 128],
+    dests: &'a [u8; 128],
+    faultids: &'a [u16; 32],
+    responses: &'a [u16; 32],
+    latching: &'a [u8; 32],
+    argcounts: &'a [u8; 32],
+    args: &'a [u8; 512],
+    states: &mut [u8; 32],
+    fault: u16,
+    out: &mut [u8],
+) -> Answer
+    requires { ⌜ RowsLent numbers (now routeids) (now dests) (now faultids) (now responses) (now latching) (now argcounts) (now args) × (length (now states) ≡ 32) × (260 ≤ length (now out)) ⌝ }
+    ensures { λ r. ⌜ ((protected : List ℕ)
+        → FaultMoves (configFrom numbers (now (routeids .entry)) (now (dests .entry)) protected (now (faultids .entry)) (now (responses .entry)) (now (latching .entry)) (now (argcounts .entry)) (now (args .entry)))
+        (now (states .entry)) fault (now (out .entry)) r (now (states .exit)) (now (out .exit))) ⌝ }
 {
-    let rows = config.nrows;
-    let k = lookup::place(&config.faultids, rows, fault);
-    if k >= rows {
-        return silent(run, 34);
+    let k = lookup::place(faultids, numbers.nrows, lookup::ROWS, fault);
+    if k >= numbers.nrows {
+        return types::bare(34);
     }
-    let s = run.states[k];
+    let s = states[k];
     if s != 1 {
-        return silent(run, 13);
+        return types::bare(13);
     }
-    let id = config.responses[k];
-    let count = config.argcounts[k];
-    let latching = config.latching[k];
-    let d = deciding::decide::route(&config.routeids, &config.dests, config.nroutes, id);
-    let written = respond(out, config.fault, id, &config.args, k, count);
-    let mut left = run;
-    left.states[k] = faultstates::row_after(latching, s, 3);
-    left.counts = counters::after_fault(run.counts, 10);
-    Stepped {
-        run: left,
-        answer: Answer {
-            answer: 10,
-            id: id,
-            dest: d.dest,
-            written: written,
-        },
+    let id = responses[k];
+    let at = lookup::place(routeids, numbers.nroutes, lookup::ROUTES, id);
+    let count = argcounts[k];
+    let latches = latching[k];
+    let written = respond(out, numbers.fault, id, args, k, count);
+    states[k] = faultstates::row_after(latches, s, 3);
+    Answer {
+        answer: 10,
+        id: id,
+        dest: dests[at],
+        written: written,
     }
 }

@@ -42,7 +42,7 @@ module _ {rs : List Record} {c : Config} {states : List ℕ} (h : Held rs c stat
 
   -- ---- what the parts ask
 
-  pub holds : Holds t (c .base) (take (c .nroutes) (c .routeids)) (take (c .nprotected) (c .protected)) (take (c .nrows) (c .faultids))
+  pub holds : Holds t (c .numbers .base) (take (c .numbers .nroutes) (c .routeids)) (take (c .numbers .nprotected) (c .protected)) (take (c .numbers .nrows) (c .faultids))
   holds =
       rw (h .tables-are)
       (record {
@@ -52,11 +52,11 @@ module _ {rs : List Record} {c : Config} {states : List ℕ} (h : Held rs c stat
         faults-are = padded-take 32 (map faultId (t .rows)) (length (t .rows)) (length-map (t .rows) faultId);
       })
 
-  pub columns : Column 128 (c .routeids) (c .nroutes) × Slots 32 (c .protected) (c .nprotected) × Slots 32 (c .faultids) (c .nrows)
+  pub columns : Column 128 (c .routeids) (c .numbers .nroutes) × Slots 32 (c .protected) (c .numbers .nprotected) × Slots 32 (c .faultids) (c .numbers .nrows)
   columns =
       let s = arrays-sized t (h .few) in
       let f = h .few in
-      let r : Rising 0 (take (c .nroutes) (c .routeids)) = rw (holds .routes-are) (h .rises) in
+      let r : Rising 0 (take (c .numbers .nroutes) (c .routeids)) = rw (holds .routes-are) (h .rises) in
       rw (h .tables-are) (
         record { long = s .routeids-128; within = f .few-routes; rise = rw (h .tables-are) at r },
         record { long = s .protected-32; within = f .few-protected },
@@ -76,16 +76,13 @@ module _ {rs : List Record} {c : Config} {states : List ℕ} (h : Held rs c stat
     pub six : r .kind ≡ 1 → length b ≡ 6
     six k = g .rest .shaped .fits .basics-6 k
 
-    pub three : r .kind ≡ 2 → (length b ≡ 3) × (c .nroutes < 128)
+    pub three : r .kind ≡ 2 → (length b ≡ 3) × (c .numbers .nroutes < 128)
     three k = (g .rest .shaped .fits .route-3 k, rw (h .tables-are) (room-2 (g .rest) k))
 
-    pub two : r .kind ≡ 3 → (length b ≡ 2) × (c .nprotected < 32)
+    pub two : r .kind ≡ 3 → (length b ≡ 2) × (c .numbers .nprotected < 32)
     two k = (g .rest .shaped .fits .protected-2 k, rw (h .tables-are) (room-3 (g .rest) k))
 
-    pub fourth : (r .kind ≡ 1 → ⊥) × (r .kind ≡ 2 → ⊥) × (r .kind ≡ 3 → ⊥) → r .kind ≡ 4
-    fourth others = let s = g .rest .shaped in omega (arith, s .kind-low, s .kind-high)
-
-    pub seven : r .kind ≡ 4 → (length b ≡ 7 + getD b 6 0) × (getD b 6 0 ≤ 16) × (c .nrows < 32)
+    pub seven : r .kind ≡ 4 → (length b ≡ 7 + getD b 6 0) × (getD b 6 0 ≤ 16) × (c .numbers .nrows < 32)
     seven k = (g .rest .shaped .fits .row-7 k, g .rest .shaped .fits .few-args k, rw (h .tables-are) (room-4 (g .rest) k))
 
     -- with it stored as its kind says, the arrays hold one more
@@ -120,8 +117,8 @@ module _ {rs : List Record} {c : Config} {states : List ℕ} (h : Held rs c stat
         }
 
     pub held-4 : r .kind ≡ 4 → {id response : ℕ} {args : List ℕ}
-        → (id ≡ le16 b 0) × (response ≡ le16 b 2) × (args ≡ putAt (c .args) (c .nrows * 16) (take (length b - 7) (drop 7 b)))
-        → Held (rs ++ r ∷ []) (withRow c id response (getD b 5 0) (getD b 6 0) args) (set states (c .nrows) (getD b 4 0))
+        → (id ≡ le16 b 0) × (response ≡ le16 b 2) × (args ≡ putAt (c .args) (c .numbers .nrows * 16) (take (length b - 7) (drop 7 b)))
+        → Held (rs ++ r ∷ []) (withRow c id response (getD b 5 0) (getD b 6 0) args) (set states (c .numbers .nrows) (getD b 4 0))
     held-4 k (e, f, i) =
         let l = room-4 (g .rest) k in
         let fits : (length b ≡ 7 + getD b 6 0) × (getD b 6 0 ≤ 16) = (g .rest .shaped .fits .row-7 k, g .rest .shaped .fits .few-args k) in

@@ -3,7 +3,7 @@ use mathlib.Core.Bool.{false}
 use mathlib.Core.List.{List}
 use Prim.Native.Nat.{ℕ}
 use Rattle.state.specs.declared.types.Run.{Run}
-pub use Rattle.records.specs.Parts.{Slots, Holds, EndSays, ShapeSays}
+pub use Rattle.records.specs.Parts.{Slots, Holds, EndSays}
 
 -- unarmed, zero counters, and these fault states, as they stand in their array
 abbrev pub runWith : List ℕ → Run

@@ -19,15 +19,18 @@ use Rattle.records.specs.RecordLaws.{plusBasics, plusRoute, plusProtected, plus
 abbrev pub withBasics : Config → ℕ → ℕ → ℕ → Config
 withBasics c ground fault base =
     record {
-      ground = ground;
-      fault = fault;
-      base = base;
-      nroutes = c .nroutes;
+      numbers =
+          record {
+            ground = ground;
+            fault = fault;
+            base = base;
+            nroutes = c .numbers .nroutes;
+            nprotected = c .numbers .nprotected;
+            nrows = c .numbers .nrows;
+          };
       routeids = c .routeids;
       dests = c .dests;
-      nprotected = c .nprotected;
       protected = c .protected;
-      nrows = c .nrows;
       faultids = c .faultids;
       responses = c .responses;
       latching = c .latching;
@@ -38,15 +41,18 @@ withBasics c ground fault base =
 abbrev pub withRoute : Config → ℕ → ℕ → Config
 withRoute c id dest =
     record {
-      ground = c .ground;
-      fault = c .fault;
-      base = c .base;
-      nroutes = c .nroutes + 1;
-      routeids = set (c .routeids) (c .nroutes) id;
-      dests = set (c .dests) (c .nroutes) dest;
-      nprotected = c .nprotected;
+      numbers =
+          record {
+            ground = c .numbers .ground;
+            fault = c .numbers .fault;
+            base = c .numbers .base;
+            nroutes = c .numbers .nroutes + 1;
+            nprotected = c .numbers .nprotected;
+            nrows = c .numbers .nrows;
+          };
+      routeids = set (c .routeids) (c .numbers .nroutes) id;
+      dests = set (c .dests) (c .numbers .nroutes) dest;
       protected = c .protected;
-      nrows = c .nrows;
       faultids = c .faultids;
       responses = c .responses;
       latching = c .latching;
@@ -57,15 +63,18 @@ withRoute c id dest =
 abbrev pub withProtected : Config → ℕ → Config
 withProtected c id =
     record {
-      ground = c .ground;
-      fault = c .fault;
-      base = c .base;
-      nroutes = c .nroutes;
+      numbers =
+          record {
+            ground = c .numbers .ground;
+            fault = c .numbers .fault;
+            base = c .numbers .base;
+            nroutes = c .numbers .nroutes;
+            nprotected = c .numbers .nprotected + 1;
+            nrows = c .numbers .nrows;
+          };
       routeids = c .routeids;
       dests = c .dests;
-      nprotected = c .nprotected + 1;
-      protected = set (c .protected) (c .nprotected) id;
-      nrows = c .nrows;
+      protected = set (c .protected) (c .numbers .nprotected) id;
       faultids = c .faultids;
       responses = c .responses;
       latching = c .latching;
@@ -76,19 +85,22 @@ withProtected c id =
 abbrev pub withRow : Config → ℕ → ℕ → ℕ → ℕ → List ℕ → Config
 withRow c id response latching count args =
     record {
-      ground = c .ground;
-      fault = c .fault;
-      base = c .base;
-      nroutes = c .nroutes;
+      numbers =
+          record {
+            ground = c .numbers .ground;
+            fault = c .numbers .fault;
+            base = c .numbers .base;
+            nroutes = c .numbers .nroutes;
+            nprotected = c .numbers .nprotected;
+            nrows = c .numbers .nrows + 1;
+          };
       routeids = c .routeids;
       dests = c .dests;
-      nprotected = c .nprotected;
       protected = c .protected;
-      nrows = c .nrows + 1;
-      faultids = set (c .faultids) (c .nrows) id;
-      responses = set (c .responses) (c .nrows) response;
-      latching = set (c .latching) (c .nrows) latching;
-      argcounts = set (c .argcounts) (c .nrows) count;
+      faultids = set (c .faultids) (c .numbers .nrows) id;
+      responses = set (c .responses) (c .numbers .nrows) response;
+      latching = set (c .latching) (c .numbers .nrows) latching;
+      argcounts = set (c .argcounts) (c .numbers .nrows) count;
       args = args;
     }
 

@@ -10,8 +10,9 @@ use Rattle.state.specs.declared.types.Config.{Config}
 use Rattle.state.specs.declared.types.Run.{Run}
 use Rattle.state.specs.Tables.{empty, configOf, freshRun, tablesOf}
 use Rattle.state.specs.Test.{keepsRules}
-use Rattle.state.specs.KeepsLaws.{kept}
-use Rattle.state.specs.ArrayLaws.{tables-back, rules-few, arrays-keep}
+use Rattle.state.specs.KeepsLaws.{keeps, kept}
+use Rattle.state.specs.Sized.{LentState}
+use Rattle.state.specs.ArrayLaws.{padded-length, tables-back, rules-few, arrays-sized, arrays-keep}
 use Rattle.image.specs.declared.types.Loaded.{Loaded}
 use Rattle.image.specs.Records.{recordsOf}
 use Rattle.image.specs.Image.{tablesOfRecords, startsOfRecords, refused, loaded, loadOf}
@@ -57,6 +58,17 @@ module _ (image : List ℕ) (z : loadOf image .answer ≡ 0) where
       let rs = recordsOf image in
       rw loaded-is
       (kept _ _ (arrays-keep (tablesOfRecords rs) (startsOfRecords rs) (g .rules) (starts-count rs) (g .starts-0-1)))
+
+  -- so its columns and fault states may be lent
+  pub loaded-lent : LentState (loadOf image .config) (loadOf image .run)
+  loaded-lent =
+      let rs = recordsOf image in
+      let few = rules-few (loads-good image z .rules) in
+      record {
+        keeps = keeps _ _ loaded-keeps;
+        sized = rw loaded-is (arrays-sized (tablesOfRecords rs) few);
+        sized-run = record { states-32 = rw loaded-run (padded-length 32 (startsOfRecords rs) (omega (arith, starts-count rs, few .few-rows))) };
+      }
 
 -- ---- a refusal: of an empty image, or of the first bad record, at its place (`first-begins`: behind the bytes of the good ones);
 -- the state is all zero

@@ -60,11 +60,16 @@ module _ {bs : List ℕ} {c : Config} {states : List ℕ} {last place : ℕ} (w 
     unfolding recordRefusal
     refusal-is = rw (w .last-is)
 
-    pub refuses : {n : ℕ} → n ≡ refusalAfter last (tablesOfRecords (w .before)) kind (bodyAt bs place end) → (n ≡ 0 → ⊥) → refused n place ≡ loadOf bs
-    refuses e q = let r = e ∙ refusal-is in sym (w .rest ∙ rw (here, ← r) (simp (ne-eqb _ _ q)))
+    -- what the function of its kind answered
+    module _ {K n : ℕ} (k : kind ≡ K) (e : n ≡ refusalAfter last (tablesOfRecords (w .before)) K (bodyAt bs place end)) where
+      told : n ≡ recordRefusal (w .before) found
+      told = e ∙ rw (← k) refusal-is
 
-    pub not-refused : {n : ℕ} → n ≡ refusalAfter last (tablesOfRecords (w .before)) kind (bodyAt bs place end) → n ≡ 0 → GoodAfter (w .before) found
-    not-refused e z = zero-good (w .before) found (sym (e ∙ refusal-is) ∙ z)
+      pub refuses : (n ≡ 0 → ⊥) → refused n place ≡ loadOf bs
+      refuses q = sym (w .rest ∙ rw (here, ← told) (simp (ne-eqb _ _ q)))
+
+      pub not-refused : n ≡ 0 → GoodAfter (w .before) found
+      not-refused z = zero-good (w .before) found (sym told ∙ z)
 
     -- a good record that was stored: the loop goes on behind it
     pub goes-on : GoodAfter (w .before) found → {d : Config} {ss : List ℕ} → Held (w .before ++ found ∷ []) d ss → Walked bs d ss kind end

@@ -11,23 +11,25 @@ use records::record;
 use state::types::Arm;
 use state::types::Config;
 use state::types::Counts;
+use state::types::Numbers;
 use state::types::Run;
-use wire::put;
 
 // All zero, all tables empty.
 fn blank() -> Config
     ensures { λ r. ⌜ r ≡ configOf empty ⌝ }
 {
     Config {
-        ground: 0,
-        fault: 0,
-        base: 0,
-        nroutes: 0,
+        numbers: Numbers {
+            ground: 0,
+            fault: 0,
+            base: 0,
+            nroutes: 0,
+            nprotected: 0,
+            nrows: 0,
+        },
         routeids: [0; 128],
         dests: [0; 128],
-        nprotected: 0,
         protected: [0; 32],
-        nrows: 0,
         faultids: [0; 32],
         responses: [0; 32],
         latching: [0; 32],
@@ -75,7 +77,7 @@ fn put_args(args: &mut [u8; 512], at: usize, s: &[u8])
     requires { ⌜ (length (now args) ≡ 512) × (at + length (now s) ≤ 512) ⌝ }
     ensures { λ _. ⌜ now (args .exit) ≡ putAt (now (args .entry)) at (now (s .entry)) ⌝ }
 {
-    put::bytes(args, at, s);
+    blocks::run(args, at, s);
 }
 
 // Loads an image: 0 and its state, or the refusal and the offset of the first bad record.
@@ -97,51 +99,81 @@ pub fn load(image: &[u8]) -> Loaded
         let kind = record::word_at(image, at + 2);
         let from = at + 4;
         let body = &image[from..end];
-        let n = config.nroutes;
-        let m = config.nprotected;
-        let k = config.nrows;
-        let refused = recordcheck::refusal(
-            last,
-            kind,
-            body,
-            config.base,
-            &config.routeids,
-            n,
-            &config.protected,
-            m,
-            &config.faultids,
-            k,
-        );
-        if refused != 0 {
-            return refusal(refused, at);
+        // Each kind has an arm of its own, which ends with its own turn of the cursor: the compiler keeps them apart.
+        if kind < 1 {
+            return refusal(2, at);
         }
-        if kind == 1 {
-            config.ground = record::word_at(body, 0);
-            config.fault = record::word_at(body, 2);
-            config.base = record::word_at(body, 4);
+        if kind < 2 {
+            let refused = recordcheck::basics_refusal(last, body);
+            if refused != 0 {
+                return refusal(refused, at);
+            }
+            config.numbers.ground = record::word_at(body, 0);
+            config.numbers.fault = record::word_at(body, 2);
+            config.numbers.base = record::word_at(body, 4);
             last = kind;
             at = end;
-        } else if kind == 2 {
+        } else if kind < 3 {
+            let n = config.numbers.nroutes;
+            let refused = recordcheck::route_refusal(
+                last,
+                body,
+                config.numbers.base,
+                &config.routeids,
+                n,
+            );
+            if refused != 0 {
+                return refusal(refused, at);
+            }
             config.routeids[n] = record::word_at(body, 0);
             config.dests[n] = body[2];
-            config.nroutes = n + 1;
+            config.numbers.nroutes = n + 1;
             last = kind;
             at = end;
-        } else if kind == 3 {
+        } else if kind < 4 {
+            let n = config.numbers.nroutes;
+            let m = config.numbers.nprotected;
+            let refused = recordcheck::protected_refusal(
+                last,
+                body,
+                config.numbers.base,
+                &config.routeids,
+                n,
+                &config.protected,
+                m,
+            );
+            if refused != 0 {
+                return refusal(refused, at);
+            }
             config.protected[m] = record::word_at(body, 0);
-            config.nprotected = m + 1;
+            config.numbers.nprotected = m + 1;
             last = kind;
             at = end;
-        } else {
+        } else if kind < 5 {
+            let n = config.numbers.nroutes;
+            let k = config.numbers.nrows;
+            let refused = recordcheck::fault_row_refusal(
+                last,
+                body,
+                &config.routeids,
+                n,
+                &config.faultids,
+                k,
+            );
+            if refused != 0 {
+                return refusal(refused, at);
+            }
             config.faultids[k] = record::word_at(body, 0);
             config.responses[k] = record::word_at(body, 2);
             config.latching[k] = body[5];
             config.argcounts[k] = body[6];
             put_args(&mut config.args, k * 16, &body[7..]);
             states[k] = body[4];
-            config.nrows = k + 1;
+            config.numbers.nrows = k + 1;
             last = kind;
             at = end;
+        } else {
+            return refusal(2, at);
         }
     }
     Loaded {

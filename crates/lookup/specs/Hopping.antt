@@ -109,6 +109,10 @@ module _ {ids : List ℕ} {n id first at next step : ℕ} (h : Hopped ids n id f
     pub other : (next ≡ id → ⊥) → n ≡ sought e id (take n ids)
     other b = split (n ≡ sought e id (take n ids)) (ltb at n) (λ t. stands-not (ltb-true at n t) b) (λ t. behind (ltb-false at n t))
 
+pub half-below : (e : ℕ) → half e < twos e
+half-below zero = omega arith
+half-below (suc e) = omega (arith, twos-positive e)
+
 -- ---- what was found, where the ids rise
 
 module _ {limit : ℕ} {ids : List ℕ} {n : ℕ} (c : Column limit ids n) (id e : ℕ) {r : ℕ} (h : r ≡ sought e id (take n ids)) (enough : limit < twos e) where

@@ -40,30 +40,28 @@ fn search(ids: &[u16], n: usize, first: usize, id: u16) -> usize
     at
 }
 
-// The place of a route by its command id; n where there is none.
+// The longest hop in a column of routes, and in one of protected ids or fault ids: as long as the column. It is handed in, and
+// not written into the two functions below, since a search whose hops are known is written out by the compiler and is then too
+// long to be put where it is called.
+pub const ROUTES: usize = 128;
+
+pub const ROWS: usize = 32;
+
+// The place of an id among the first n of a column; n where there is none.
 // internal: for the path's own stages, whose tables keep their rules.
-pub fn route_place(ids: &[u16; 128], n: usize, id: u16) -> usize
-    requires { ⌜ Column 128 (now ids) n ⌝ }
-    ensures { λ r. ⌜ (r ≡ placeIn id (take n (now (ids .entry)))) × (r ≤ n) ⌝ }
+pub fn place(ids: &[u16], n: usize, first: usize, id: u16) -> usize
+    requires { ⌜ Column first (now ids) n ⌝ }
+    ensures { λ r. ⌜ ((e : ℕ) → first ≡ half e → (r ≡ placeIn id (take n (now (ids .entry)))) × (r ≤ n)) ⌝ }
 {
-    search(ids, n, 128, id)
+    search(ids, n, first, id)
 }
 
-// The place of an id among at most 32, as protected ids and fault ids are; n where there is none.
-// internal: for the path's own stages, whose tables keep their rules.
-pub fn place(ids: &[u16; 32], n: usize, id: u16) -> usize
-    requires { ⌜ Column 32 (now ids) n ⌝ }
-    ensures { λ r. ⌜ (r ≡ placeIn id (take n (now (ids .entry)))) × (r ≤ n) ⌝ }
+// The id is one of the first n of a column.
+// internal: for the packet step, and for the loader and the judge of a state, which ask it of routes that rise.
+pub fn holds(ids: &[u16], n: usize, first: usize, id: u16) -> bool
+    requires { ⌜ Column first (now ids) n ⌝ }
+    ensures { λ r. ⌜ ((e : ℕ) → first ≡ half e → r ≡ member id (take n (now (ids .entry)))) ⌝ }
 {
-    search(ids, n, 32, id)
-}
-
-// The id is that of one of the first n routes.
-// internal: for the loader and the judge of a state, which ask it of routes that rise.
-pub fn is_routed(ids: &[u16], n: usize, id: u16) -> bool
-    requires { ⌜ Column 128 (now ids) n ⌝ }
-    ensures { λ r. ⌜ r ≡ member id (take n (now (ids .entry))) ⌝ }
-{
-    let k = search(ids, n, 128, id);
+    let k = search(ids, n, first, id);
     k < n
 }

@@ -25,15 +25,16 @@ pub fn judge(packet: &[u8]) -> Judged
     }
 }
 
-// The packet's first refusal, or 0.
+// The packet's first refusal, or 0. Past 23 the size stands for the length field: the data length is the size less 6.
 pub fn refusal(packet: &[u8]) -> u8
     ensures { λ r. ⌜ r ≡ refusalOf (now (packet .entry)) ⌝ }
 {
-    if packet.len() < 6 {
+    let size = packet.len();
+    if size < 6 {
         return 22;
     }
     let field = wire::word::big(packet[4], packet[5]) as usize;
-    if packet.len() != 7 + field {
+    if size != 7 + field {
         return 23;
     }
     let form = form_refusal(packet);
@@ -41,10 +42,10 @@ pub fn refusal(packet: &[u8]) -> u8
         return form;
     }
     let pads = bitfields::pads(packet[6]) as usize;
-    if field + 1 < pads + 4 {
+    if size < pads + 10 {
         return 28;
     }
-    if 255 < field + 1 - pads - 4 {
+    if 255 < size - pads - 10 {
         return 29;
     }
     0

@@ -14,22 +14,24 @@ pub fn command_id(packet: &[u8]) -> u16
     wire::word::big(packet[8], packet[9])
 }
 
+// The packet's size is 7 + its length field, so the field need not be read again.
 // internal: the argument count of a packet that its caller has judged.
 pub fn arg_count(packet: &[u8]) -> u8
     requires { ⌜ Accepts (now packet) ⌝ }
     ensures { λ r. ⌜ r ≡ argCount (now (packet .entry)) ⌝ }
 {
-    let field = wire::word::big(packet[4], packet[5]) as usize;
     let pads = bitfields::pads(packet[6]) as usize;
-    (field + 1 - pads - 4) as u8
+    (packet.len() - pads - 10) as u8
 }
 
+// It ends where the pads begin.
 // internal: the argument part of a packet that its caller has judged.
 pub fn accepted_part(packet: &[u8]) -> &[u8]
     requires { ⌜ Accepts (now packet) ⌝ }
     ensures content { λ r. ⌜ now r ≡ argumentsOf (now (packet .entry)) ⌝ }
     ensures place { λ r. ⌜ (ptr r .0 ≡ ptr (packet .entry) .0) × (ptr r .1 ≡ 10 + ptr (packet .entry) .1) ⌝ }
 {
-    let end = 10 + arg_count(packet) as usize;
+    let pads = bitfields::pads(packet[6]) as usize;
+    let end = packet.len() - pads;
     &packet[10..end]
 }

@@ -1,105 +1,143 @@
-// The packet step of a state that keeps its rules.
+// The packet step of a state that keeps its rules. The columns that it looks at are lent, and so are the fault states, which
+// change where they stand; the counters are for the caller. Every way out returns by itself.
 use answers::own;
-use state::types::Config;
-use state::types::Run;
+use arming::after_packet;
+use state::rules;
+use state::types::Arm;
+use state::types::Numbers;
 use steprules::types;
 use steprules::types::Answer;
-use steprules::types::Stepped;
-ghost use mathlib.Core.Path.{_≡_};
+use steprules::types::Moved;
+ghost use mathlib.Core.List.{List};
 ghost use Prim.Native.Nat.{ℕ, _≤_};
-ghost use lib.ListN.{length, getD, take};
-ghost use Rattle.state.specs.Tables.{tablesOf};
+ghost use lib.ListN.{length, take};
+ghost use mathlib.Core.Path.{_≡_};
+ghost use Rattle.state.specs.Tables.{configFrom};
 ghost use Rattle.state.specs.Lookup.{Column};
-ghost use Rattle.state.specs.Keeps.{Keeps};
-ghost use Rattle.steprules.specs.Step.{rejectedStep, packetStep, packetOutput};
-ghost use Rattle.steprules.specs.StateLaws.{statesOn};
+ghost use Rattle.answers.specs.Answers.{blocked};
+ghost use Rattle.answers.specs.AnswerLaws.{Lent};
+ghost use Rattle.steprules.specs.Moved.{StatesLent, quietly, rejectedBy, OwnMoves, PacketMoves};
 
-// A rejected packet: R, and nothing else.
-fn rejected(run: Run, n: u8) -> Stepped
-    ensures { λ r. ⌜ r ≡ rejectedStep run n ⌝ }
+// A rejected packet: the arm record stays.
+fn rejected(arm: Arm, n: u8) -> Moved
+    ensures { λ r. ⌜ r ≡ rejectedBy arm n ⌝ }
 {
-    let next = counters::after_rejected(run.counts);
-    let mut left = run;
-    left.counts = next;
-    Stepped {
-        run: left,
+    Moved {
+        arm: arm,
+        reset: false,
         answer: types::bare(n),
     }
 }
 
-// The fault states after an accepted packet with the answer n and the own number k.
-fn states_after(
-    states: [u8; 32],
-    n: u8,
-    k: u8,
-    args: &[u8],
-    ids: &[u16; 32],
-    rows: usize,
-) -> [u8; 32]
-    requires { ⌜ Column 32 (now ids) rows × ((j : ℕ) → getD states j 0 ≤ 2) ⌝ }
-    ensures { λ r. ⌜ r ≡ statesOn (take rows (now (ids .entry))) n k (now (args .entry)) states ⌝ }
+// An accepted packet that is not sent on.
+fn quiet(arm: Arm, n: u8, id: u16, args: &[u8], reset: bool) -> Moved
+    ensures { λ r. ⌜ r ≡ quietly n id (now (args .entry)) reset ⌝ }
 {
-    if n != 12 {
-        return states;
-    }
-    let c = own::selected(k);
-    if c.row {
-        let at = lookup::place(ids, rows, own::fault_arg(args));
-        if at >= rows {
-            return states;
-        }
-        let mut out = states;
-        out[at] = faultstates::next(states[at], k - 4);
-        return out;
-    }
-    if k == 7 {
-        return faultstates::clear_all(states);
-    }
-    states
-}
-
-// The step of a state that keeps its rules, with room. The arguments are handed on as the part of the packet from byte 10.
-// internal: for `step_packet`, and for a loop that judges its state once.
-pub fn inner_packet(config: Config, run: Run, packet: &[u8], out: &mut [u8]) -> Stepped
-    requires { ⌜ Keeps config run × (260 ≤ length (now out)) ⌝ }
-    ensures step { λ r. ⌜ r ≡ packetStep (tablesOf config) run (now (packet .entry)) ⌝ }
-    ensures output { λ r. ⌜ now (out .exit) ≡ packetOutput (tablesOf config) (r .answer .answer) (now (packet .entry)) (now (out .entry)) ⌝ }
-{
-    let refusal = packet::judge::refusal(packet);
-    if refusal != 0 {
-        return rejected(run, refusal);
-    }
-    let id = packet::judge::command_id(packet);
-    let args = packet::enquiry::accepted_part(packet);
-    let k = own::number(config.base, id);
-    let d = deciding::decide::decide(
-        &config.protected,
-        config.nprotected,
-        &config.faultids,
-        config.nrows,
-        &config.routeids,
-        &config.dests,
-        config.nroutes,
-        run.arm.armed,
-        id,
-        k,
-        args,
-    );
-    let n = d.answer;
-    let old = run.states;
-    let states = states_after(old, n, k, args, &config.faultids, config.nrows);
-    let written = dispatch::send(out, n, config.ground, id, args);
-    let next = Run {
-        arm: arming::after_packet(run.arm, n, args),
-        counts: counters::after_packet(run.counts, n, k),
-        states: states,
-    };
-    Stepped {
-        run: next,
+    Moved {
+        arm: after_packet(arm, n, args),
+        reset: reset,
         answer: Answer {
             answer: n,
             id: id,
-            dest: d.dest,
+            dest: 0,
+            written: 0,
+        },
+    }
+}
+
+// Protected and unarmed.
+fn is_blocked(ids: &[u16; 32], n: usize, armed: bool, id: u16) -> bool
+    requires { ⌜ Column 32 (now ids) n ⌝ }
+    ensures { λ r. ⌜ r ≡ blocked (take n (now (ids .entry))) armed id ⌝ }
+{
+    if armed {
+        return false;
+    }
+    lookup::holds(ids, n, lookup::ROWS, id)
+}
+
+// The own command k.
+fn own_step(
+    faultids: &[u16; 32],
+    nrows: usize,
+    arm: Arm,
+    states: &mut [u8; 32],
+    k: u8,
+    id: u16,
+    args: &[u8],
+) -> Moved
+    requires { ⌜ Column 32 (now faultids) nrows × StatesLent (now states) ⌝ }
+    ensures { λ r. ⌜ OwnMoves (take nrows (now (faultids .entry))) k id (now (args .entry)) (now (states .entry)) r (now (states .exit)) ⌝ }
+{
+    let c = own::selected(k);
+    if args.len() != c.wanted {
+        return quiet(arm, 31, id, args, false);
+    }
+    if c.row {
+        let at = lookup::place(faultids, nrows, lookup::ROWS, own::fault_arg(args));
+        if at >= nrows {
+            return quiet(arm, 32, id, args, false);
+        }
+        states[at] = faultstates::next(states[at], k - 4);
+        return quiet(arm, 12, id, args, false);
+    }
+    if k == 0 {
+        return quiet(arm, 11, id, args, false);
+    }
+    if k == 1 {
+        return quiet(arm, 12, id, args, true);
+    }
+    if k == 7 {
+        faultstates::clear_all(states);
+        return quiet(arm, 12, id, args, false);
+    }
+    quiet(arm, 12, id, args, false)
+}
+
+// The step, with room in the output. The arguments are handed on as the part of the packet from byte 10. What it does is said of
+// every configuration with these columns: of the fault rows it sees the ids alone.
+// internal: for the steps that judge their state, and for a loop that judges its state once.
+pub fn inner_packet<'a>(
+    numbers: Numbers,
+    routeids: &'a [u16; 128],
+    dests: &'a [u8; 128],
+    protected: &'a [u16; 32],
+    faultids: &'a [u16; 32],
+    arm: Arm,
+    states: &mut [u8; 32],
+    packet: &[u8],
+    out: &mut [u8],
+) -> Moved
+    requires { ⌜ Lent numbers (now routeids) (now dests) (now protected) (now faultids) × StatesLent (now states) × (260 ≤ length (now out)) ⌝ }
+    ensures { λ r. ⌜ ((responses latching argcounts args : List ℕ)
+        → PacketMoves (configFrom numbers (now (routeids .entry)) (now (dests .entry)) (now (protected .entry)) (now (faultids .entry)) responses latching argcounts args)
+        arm (now (states .entry)) (now (packet .entry)) (now (out .entry)) r (now (states .exit)) (now (out .exit))) ⌝ }
+{
+    let refusal = packet::judge::refusal(packet);
+    if refusal != 0 {
+        return rejected(arm, refusal);
+    }
+    let id = packet::judge::command_id(packet);
+    let args = packet::enquiry::accepted_part(packet);
+    if is_blocked(protected, numbers.nprotected, arm.armed, id) {
+        return quiet(arm, 30, id, args, false);
+    }
+    if rules::is_own(numbers.base, id) {
+        let k = own::number(numbers.base, id);
+        return own_step(faultids, numbers.nrows, arm, states, k, id, args);
+    }
+    let at = lookup::place(routeids, numbers.nroutes, lookup::ROUTES, id);
+    if at >= numbers.nroutes {
+        return quiet(arm, 33, id, args, false);
+    }
+    let written = dispatch::write(out, numbers.ground, id, args);
+    Moved {
+        arm: after_packet(arm, 10, args),
+        reset: false,
+        answer: Answer {
+            answer: 10,
+            id: id,
+            dest: dests[at],
             written: written,
         },
     }

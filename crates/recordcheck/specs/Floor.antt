@@ -1,9 +1,9 @@
 -- Laws of columns of ids: how many are in use, and the floor behind the last.
 use mathlib.Core.Path.{_≡_, refl}
 use mathlib.Core.List.{List, [], _∷_, _++_}
-use Prim.Native.Nat.{ℕ, zero, suc, _+_, _-_, _≤_}
-use native.Mathlib.Numerals.{add-one}
+use Prim.Native.Nat.{ℕ, zero, suc, _-_, _≤_}
 use native.Mathlib.Omega.{arith}
+use lib.Dec.{leb, ltb}
 use lib.ListN.{length, getD, take}
 use lib.Seq.{length-take-le, take-suc}
 use Rattle.state.specs.Lookup.{Column}
@@ -25,8 +25,9 @@ floor-snoc : (low : ℕ) (xs : List ℕ) (x : ℕ) → floorFrom low (xs ++ x �
 floor-snoc low [] x = refl
 floor-snoc low (y ∷ xs) x = floor-snoc (suc y) xs x
 
-pub floor-at : (xs : List ℕ) (n x : ℕ) → (n ≡ 0 → ⊥) × (n ≤ length xs) × (x ≡ getD xs (n - 1) 0) → x + 1 ≡ floor (take n xs)
-floor-at xs zero x (p, q, e) = absurd (p refl)
-floor-at xs (suc n) x (p, q, e) =
+-- to be above the last of the first n is to be no lower than the floor behind them
+pub above : (xs : List ℕ) (n id : ℕ) → (n ≡ 0 → ⊥) × (n ≤ length xs) → ltb (getD xs (n - 1) 0) id ≡ leb (floor (take n xs)) id
+above xs zero id (p, q) = absurd (p refl)
+above xs (suc n) id (p, q) =
     let k : suc n - 1 ≡ n = omega arith in
-    rw (e, k, take-suc xs n 0 q, floor-snoc 0 (take n xs) (getD xs n 0)) (add-one (getD xs n 0))
+    rw (k, take-suc xs n 0 q, floor-snoc 0 (take n xs) (getD xs n 0))

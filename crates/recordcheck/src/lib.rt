@@ -1,83 +1,125 @@
-// What refuses a record: its kind, size and order, and then the rows before it, of which only the ids are looked at.
-// The arrays of ids are lent, so that nothing is copied.
+// What refuses a whole record, one function for each kind: by its size, the order of kinds and ids, the room in its table, and its
+// rules. Each asks in the order of the numbers and returns at the first that fails. Of the rows before it only the ids are looked
+// at, in arrays that are lent, so that nothing is copied; and only those that the kind has to know of.
 ghost use mathlib.Core.Path.{_≡_};
 ghost use mathlib.Core.Bool.{_&&_};
-ghost use Prim.Native.Nat.{_≤_, _<_};
-ghost use lib.ListN.{length, take, getD};
+ghost use mathlib.Core.List.{List};
+ghost use Prim.Native.Nat.{ℕ, _≤_};
+ghost use lib.Dec.{leb};
+ghost use lib.ListN.{length, take};
+ghost use Rattle.wire.specs.Check.{check};
 ghost use Rattle.state.specs.Tables.{Tables};
 ghost use Rattle.state.specs.Lookup.{Column};
-ghost use Rattle.state.specs.Rules.{floor, routeOk, rowOk, startOk};
-ghost use Rattle.state.specs.Test.{protectedPasses, rowPasses};
-ghost use Rattle.records.specs.Records.{le16};
-ghost use Rattle.records.specs.Checks.{startIn, rowIn, rowRefusal, basicsRefusal, refusalAfter};
-ghost use Rattle.records.specs.Parts.{Slots, Holds};
-use lookup::is_routed;
-use records::record::shape;
+ghost use Rattle.state.specs.Rules.{member, floor, startOk, rowOk};
+ghost use Rattle.state.specs.Test.{protectedPasses};
+ghost use Rattle.records.specs.Checks.{sized, refusalAfter};
+ghost use Rattle.records.specs.Parts.{Slots, Holds, placeRefusal};
+use lookup::holds;
 use records::record::word_at;
 use state::rules;
 
-// Widened, so that one above the last id there is still fits.
-fn wide(x: u16) -> usize
-    ensures { λ r. ⌜ (r ≡ x) × (r < 65536) ⌝ }
-{
-    x as usize
-}
+// ---- what kinds share
 
-// The least id that may follow the first n.
-fn floor_of(ids: &[u16], n: usize) -> usize
+// The id is above the last of the first n.
+fn is_above(ids: &[u16], n: usize, id: u16) -> bool
     requires { ⌜ n ≤ length (now ids) ⌝ }
-    ensures { λ r. ⌜ r ≡ floor (take n (now (ids .entry))) ⌝ }
+    ensures { λ r. ⌜ r ≡ leb (floor (take n (now (ids .entry)))) id ⌝ }
 {
     if n == 0 {
-        return 0;
+        return true;
     }
-    wide(ids[n - 1]) + 1
+    ids[n - 1] < id
 }
 
-// Of a row behind n others, which leave this floor; `ok` is whether it keeps the other rules.
-fn row_refusal(limit: usize, low: usize, n: usize, id: u16, ok: bool) -> u8
-    ensures { λ r. ⌜ r ≡ rowRefusal limit low n id ok ⌝ }
+// A row behind n others, of which there may be so many: 4 by the order of kinds or of ids, 6 where there is no room, else 0.
+fn place_refusal(last: u16, kind: u16, limit: usize, ids: &[u16], n: usize, id: u16) -> u8
+    requires { ⌜ (2 ≤ kind) × (n ≤ length (now ids)) ⌝ }
+    ensures { λ r. ⌜ r ≡ placeRefusal last kind limit (floor (take n (now (ids .entry)))) n id ⌝ }
 {
-    if wide(id) < low {
+    if last == 0 {
+        return 4;
+    }
+    if kind < last {
+        return 4;
+    }
+    if !is_above(ids, n, id) {
         return 4;
     }
     if n >= limit {
         return 6;
     }
-    if !ok {
-        return 7;
-    }
     0
 }
 
-// Of kind 1: the sources differ, and own base fits.
-fn basics_refusal(body: &[u8]) -> u8
-    requires { ⌜ length (now body) ≡ 6 ⌝ }
-    ensures { λ r. ⌜ r ≡ basicsRefusal (now (body .entry)) ⌝ }
+// The last check: 7 where the rules are broken.
+fn rule_refusal(ok: bool) -> u8
+    ensures { λ r. ⌜ r ≡ check ok 7 0 ⌝ }
 {
+    if ok {
+        return 0;
+    }
+    7
+}
+
+// ---- kind 1
+
+// The sources differ, and own base fits.
+pub fn basics_refusal(last: u16, body: &[u8]) -> u8
+    ensures { λ r. ⌜ ((t : Tables) → r ≡ refusalAfter last t 1 (now (body .entry))) ⌝ }
+{
+    if body.len() != 6 {
+        return 3;
+    }
+    if last != 0 {
+        return 4;
+    }
     let ground = word_at(body, 0);
     let fault = word_at(body, 2);
     let base = word_at(body, 4);
-    if !rules::basics_ok(ground, fault, base) {
-        return 7;
-    }
-    0
+    rule_refusal(rules::basics_ok(ground, fault, base))
 }
 
-// Of kind 2, behind the n routes with these ids.
-fn route_refusal<'a>(body: &'a [u8], base: u16, ids: &'a [u16; 128], n: usize) -> u8
-    requires { ⌜ (length (now body) ≡ 3) × Slots 128 (now ids) n ⌝ }
-    ensures { λ r. ⌜ r ≡ rowRefusal 128 (floor (take n (now (ids .entry)))) n (le16 (now (body .entry)) 0)
-        (routeOk base (le16 (now (body .entry)) 0) (getD (now (body .entry)) 2 0)) ⌝ }
+// ---- kind 2
+
+// Behind the n routes with these ids.
+// internal: for the loader, whose arrays are so.
+pub fn route_refusal<'a>(last: u16, body: &'a [u8], base: u16, ids: &'a [u16; 128], n: usize) -> u8
+    requires { ⌜ Slots 128 (now ids) n ⌝ }
+    ensures { λ r. ⌜ ((t : Tables) (protected faults : List ℕ)
+        → Holds t base (take n (now (ids .entry))) protected faults
+        → r ≡ refusalAfter last t 2 (now (body .entry))) ⌝ }
 {
+    if body.len() != 3 {
+        return 3;
+    }
     let id = word_at(body, 0);
-    let low = floor_of(ids, n);
-    let ok = rules::route_ok(base, id, body[2]);
-    row_refusal(128, low, n, id, ok)
+    let placed = place_refusal(last, 2, 128, ids, n, id);
+    if placed != 0 {
+        return placed;
+    }
+    rule_refusal(rules::route_ok(base, id, body[2]))
 }
 
-// Of kind 3, behind n routes and m protected ids: the only lookup is that of its own id.
-fn protected_refusal<'a>(
+// ---- kind 3
+
+// The rule, with the lookup last: an own id need not be looked up.
+fn protected_ok(base: u16, ids: &[u16; 128], n: usize, id: u16) -> bool
+    requires { ⌜ Column 128 (now ids) n ⌝ }
+    ensures { λ r. ⌜ r ≡ protectedPasses base (take n (now (ids .entry))) id ⌝ }
+{
+    if id == base {
+        return false;
+    }
+    if rules::is_own(base, id) {
+        return true;
+    }
+    holds(ids, n, lookup::ROUTES, id)
+}
+
+// Behind n routes and m protected ids.
+// internal: for the loader, whose arrays are so.
+pub fn protected_refusal<'a>(
+    last: u16,
     body: &'a [u8],
     base: u16,
     ids: &'a [u16; 128],
@@ -85,77 +127,76 @@ fn protected_refusal<'a>(
     protected: &'a [u16; 32],
     m: usize,
 ) -> u8
-    requires { ⌜ (length (now body) ≡ 2) × Column 128 (now ids) n × Slots 32 (now protected) m ⌝ }
-    ensures { λ r. ⌜ r ≡ rowRefusal 32 (floor (take m (now (protected .entry)))) m (le16 (now (body .entry)) 0)
-        (protectedPasses base (take n (now (ids .entry))) (le16 (now (body .entry)) 0)) ⌝ }
+    requires { ⌜ Column 128 (now ids) n × Slots 32 (now protected) m ⌝ }
+    ensures { λ r. ⌜ ((t : Tables) (faults : List ℕ)
+        → Holds t base (take n (now (ids .entry))) (take m (now (protected .entry))) faults
+        → r ≡ refusalAfter last t 3 (now (body .entry))) ⌝ }
 {
+    if body.len() != 2 {
+        return 3;
+    }
     let id = word_at(body, 0);
-    let low = floor_of(protected, m);
-    let routed = is_routed(ids, n, id);
-    let ok = rules::protected_ok(base, routed, id);
-    row_refusal(32, low, m, id, ok)
+    let placed = place_refusal(last, 3, 32, protected, m, id);
+    if placed != 0 {
+        return placed;
+    }
+    rule_refusal(protected_ok(base, ids, n, id))
 }
 
-// The start state is 0 or 1, the response is routed, latching is 0 or 1.
-fn row_ok(start: u8, routed: bool, latching: u8) -> bool
-    ensures { λ r. ⌜ r ≡ (startOk start && rowOk routed latching) ⌝ }
+// ---- kind 4
+
+// As long as its n says, which is at most 16.
+fn is_row_sized(body: &[u8]) -> bool
+    ensures { λ r. ⌜ r ≡ sized 4 (now (body .entry)) ⌝ }
+{
+    if body.len() < 7 {
+        return false;
+    }
+    let n = body[6];
+    if n > 16 {
+        return false;
+    }
+    body.len() == 7 + n as usize
+}
+
+// The rule, with the lookup last: start state and latching are 0 or 1, and the response is routed. Of latching alone it is asked
+// as of a routed response.
+fn row_ok(start: u8, latching: u8, ids: &[u16; 128], n: usize, response: u16) -> bool
+    requires { ⌜ Column 128 (now ids) n ⌝ }
+    ensures { λ r. ⌜ r ≡ (startOk start && rowOk (member response (take n (now (ids .entry)))) latching) ⌝ }
 {
     if !rules::start_ok(start) {
         return false;
     }
-    rules::row_ok(routed, latching)
+    if !rules::row_ok(true, latching) {
+        return false;
+    }
+    holds(ids, n, lookup::ROUTES, response)
 }
 
-// Of kind 4, behind n routes and k fault rows: the only lookup is that of its response id.
-fn fault_row_refusal<'a>(
-    body: &'a [u8],
-    ids: &'a [u16; 128],
-    n: usize,
-    faults: &'a [u16; 32],
-    k: usize,
-) -> u8
-    requires { ⌜ (7 ≤ length (now body)) × Column 128 (now ids) n × Slots 32 (now faults) k ⌝ }
-    ensures { λ r. ⌜ r ≡ rowRefusal 32 (floor (take k (now (faults .entry)))) k (le16 (now (body .entry)) 0)
-        (startOk (startIn (now (body .entry))) && rowPasses (take n (now (ids .entry))) (rowIn (now (body .entry)))) ⌝ }
-{
-    let id = word_at(body, 0);
-    let low = floor_of(faults, k);
-    let routed = is_routed(ids, n, word_at(body, 2));
-    let ok = row_ok(body[4], routed, body[5]);
-    row_refusal(32, low, k, id, ok)
-}
-
-// The refusal of a whole record behind the rows whose ids these are, or 0.
+// Behind n routes and k fault rows.
 // internal: for the loader, whose arrays are so.
-pub fn refusal<'a>(
+pub fn fault_row_refusal<'a>(
     last: u16,
-    kind: u16,
     body: &'a [u8],
-    base: u16,
     ids: &'a [u16; 128],
     n: usize,
-    protected: &'a [u16; 32],
-    m: usize,
     faults: &'a [u16; 32],
     k: usize,
 ) -> u8
-    requires { ⌜ Column 128 (now ids) n × Slots 32 (now protected) m × Slots 32 (now faults) k ⌝ }
-    ensures { λ r. ⌜ ((t : Tables)
-        → Holds t base (take n (now (ids .entry))) (take m (now (protected .entry))) (take k (now (faults .entry)))
-        → r ≡ refusalAfter last t kind (now (body .entry))) ⌝ }
+    requires { ⌜ Column 128 (now ids) n × Slots 32 (now faults) k ⌝ }
+    ensures { λ r. ⌜ ((t : Tables) (base : ℕ) (protected : List ℕ)
+        → Holds t base (take n (now (ids .entry))) protected (take k (now (faults .entry)))
+        → r ≡ refusalAfter last t 4 (now (body .entry))) ⌝ }
 {
-    let s = shape(last, kind, body);
-    if s != 0 {
-        return s;
+    if !is_row_sized(body) {
+        return 3;
     }
-    if kind == 1 {
-        return basics_refusal(body);
+    let id = word_at(body, 0);
+    let placed = place_refusal(last, 4, 32, faults, k, id);
+    if placed != 0 {
+        return placed;
     }
-    if kind == 2 {
-        return route_refusal(body, base, ids, n);
-    }
-    if kind == 3 {
-        return protected_refusal(body, base, ids, n, protected, m);
-    }
-    fault_row_refusal(body, ids, n, faults, k)
+    let response = word_at(body, 2);
+    rule_refusal(row_ok(body[4], body[5], ids, n, response))
 }

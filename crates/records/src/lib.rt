@@ -1,2 +1,2 @@
-// The records of a configuration image: where each ends, and whether its kind, size and order are right.
+// The records of a configuration image: where each ends.
 pub mod record;

@@ -1,25 +1,27 @@
 // Replay of a recording: the state is judged once, and each event costs one inner step.
 use replayrules::recording;
 use replayrules::types::Piece;
+use replayrules::types::Reached;
 use replayrules::types::Replayed;
+use state::types::Arm;
 use state::types::Config;
 use state::types::Counts;
+use state::types::Numbers;
 use state::types::Run;
 ghost use mathlib.Core.Path.{_≡_};
 ghost use lib.ListN.{length};
-ghost use Rattle.state.specs.Tables.{tablesOf};
-ghost use Rattle.state.specs.Keeps.{Keeps};
+ghost use Rattle.state.specs.Tables.{configFrom, runFrom};
+ghost use Rattle.state.specs.Sized.{LentState};
 ghost use Rattle.dispatch.specs.Dispatch.{over};
-ghost use Rattle.records.specs.Records.{recordsOf};
-ghost use Rattle.replayrules.specs.Recording.{flat};
-ghost use Rattle.replayrules.specs.Replay.{stoppedAt, piece, pathReplies, pieceOf, pieceBytes, replayOf, replayBytes};
+ghost use Rattle.replayrules.specs.Replay.{Replays, Resumes, pieceOf, pieceBytes, replayOf, replayBytes};
 
 // What a replay that stops here came to.
-fn stopped(run: Run, stop: u8, read: usize, count: usize, wrote: usize) -> Piece
-    ensures { λ r. ⌜ r ≡ stoppedAt run stop read count wrote ⌝ }
+fn stopped(arm: Arm, counts: Counts, stop: u8, read: usize, count: usize, wrote: usize) -> Reached
+    ensures { λ r. ⌜ r ≡ record { arm = arm; counts = counts; stop = stop; read = read; count = count; wrote = wrote } ⌝ }
 {
-    Piece {
-        run,
+    Reached {
+        arm,
+        counts,
         stop,
         read,
         count,
@@ -28,67 +30,203 @@ fn stopped(run: Run, stop: u8, read: usize, count: usize, wrote: usize) -> Piece
 }
 
 // A recording behind a state that keeps its rules, event by event, until a record is bad or less than 266 bytes of the output
-// are left. Each arm ends with its own turn of the cursors, so that the arms never join.
-// internal: for `resume` and `replay`, which have judged the state.
-pub fn inner_replay(config: Config, run: Run, recording: &[u8], out: &mut [u8]) -> Piece
-    requires { ⌜ Keeps config run ⌝ }
-    ensures told { λ r. ⌜ r ≡ piece (tablesOf config) run (recordsOf (now (recording .entry))) (pathReplies (tablesOf config) run (recordsOf (now (recording .entry))) (length (now (out .entry)))) ⌝ }
-    ensures output { λ r. ⌜ now (out .exit) ≡ over (flat (pathReplies (tablesOf config) run (recordsOf (now (recording .entry))) (length (now (out .entry))))) (now (out .entry)) ⌝ }
+// are left. Columns and fault states are lent; arm record and counters go by value and are worked out beside each step. Each arm
+// asks what its kind can be refused for and ends with its own turn of the cursors, so that the arms never join and the kind is
+// asked about once.
+// internal: for `lent_resume` and `replay`, which have judged the state.
+pub fn inner_replay<'a>(
+    numbers: Numbers,
+    routeids: &'a [u16; 128],
+    dests: &'a [u8; 128],
+    protected: &'a [u16; 32],
+    faultids: &'a [u16; 32],
+    responses: &'a [u16; 32],
+    latching: &'a [u8; 32],
+    argcounts: &'a [u8; 32],
+    args: &'a [u8; 512],
+    arm: Arm,
+    counts: Counts,
+    states: &mut [u8; 32],
+    recording: &[u8],
+    out: &mut [u8],
+) -> Reached
+    requires { ⌜ LentState (configFrom numbers (now routeids) (now dests) (now protected) (now faultids) (now responses) (now latching) (now argcounts) (now args)) (runFrom arm counts (now states)) ⌝ }
+    ensures { λ r. ⌜ Replays
+        (configFrom numbers (now (routeids .entry)) (now (dests .entry)) (now (protected .entry)) (now (faultids .entry)) (now (responses .entry)) (now (latching .entry)) (now (argcounts .entry)) (now (args .entry)))
+        (runFrom arm counts (now (states .entry))) (now (recording .entry)) (now (out .entry)) r (now (states .exit)) (now (out .exit)) ⌝ }
 {
-    let mut left = run;
+    let mut armed = arm;
+    let mut counted = counts;
     let mut read = 0;
     let mut count = 0;
     let mut wrote = 0;
     while read < recording.len() {
         let end = records::record::end_of(recording, read);
         if end == 0 {
-            return stopped(left, 1, read, count, wrote);
+            return stopped(armed, counted, 1, read, count, wrote);
         }
         let kind = records::record::word_at(recording, read + 2);
         let from = read + 4;
         let body = &recording[from..end];
-        let refused = recording::refusal(kind, body.len());
-        if refused != 0 {
-            return stopped(left, refused, read, count, wrote);
-        }
-        if out.len() - wrote < 266 {
-            return stopped(left, 21, read, count, wrote);
-        }
-        let place = wrote + 6;
         if kind == 16 {
-            let sent = packetstep::inner_packet(config, left, body, &mut out[place..]);
-            wrote = recording::put_numbers(out, wrote, sent.answer);
-            left = sent.run;
+            if out.len() - wrote < 266 {
+                return stopped(armed, counted, 21, read, count, wrote);
+            }
+            let place = wrote + 6;
+            let sent = packetstep::inner_packet(
+                numbers,
+                routeids,
+                dests,
+                protected,
+                faultids,
+                armed,
+                states,
+                body,
+                &mut out[place..],
+            );
+            let answer = sent.answer;
+            wrote = recording::put_numbers(out, wrote, answer);
+            counted = counters::after_packet(counted, answer.answer, sent.reset);
+            armed = sent.arm;
             count += 1;
             read = end;
         } else if kind == 17 {
-            let ticked = steps::on_tick::inner_tick(left);
-            wrote = recording::put_numbers(out, wrote, ticked.answer);
-            left = ticked.run;
+            if body.len() != 0 {
+                return stopped(armed, counted, 3, read, count, wrote);
+            }
+            if out.len() - wrote < 266 {
+                return stopped(armed, counted, 21, read, count, wrote);
+            }
+            let ticked = arming::tick_of(armed);
+            wrote = recording::put_numbers(out, wrote, steprules::types::bare(ticked.answer));
+            armed = ticked.arm;
             count += 1;
             read = end;
         } else {
+            let refused = recording::refusal(kind, body.len());
+            if refused != 0 {
+                return stopped(armed, counted, refused, read, count, wrote);
+            }
+            if out.len() - wrote < 266 {
+                return stopped(armed, counted, 21, read, count, wrote);
+            }
+            let place = wrote + 6;
             let fault = records::record::word_at(body, 0);
-            let faulted = faultstep::inner_fault(config, left, fault, &mut out[place..]);
-            wrote = recording::put_numbers(out, wrote, faulted.answer);
-            left = faulted.run;
+            let answer = faultstep::inner_fault(
+                numbers,
+                routeids,
+                dests,
+                faultids,
+                responses,
+                latching,
+                argcounts,
+                args,
+                states,
+                fault,
+                &mut out[place..],
+            );
+            wrote = recording::put_numbers(out, wrote, answer);
+            counted = counters::after_fault(counted, answer.answer);
             count += 1;
             read = end;
         }
     }
-    stopped(left, 0, read, count, wrote)
+    stopped(armed, counted, 0, read, count, wrote)
 }
 
 // A piece of a recording behind any state: 20 where the state breaks its rules, which is judged once. A recording may come in
-// pieces: what was not read of one stands before the next, and the run of one goes into the next.
+// pieces: what was not read of one stands before the next, and what one leaves goes into the next. Columns and fault states are
+// lent.
+pub fn lent_resume<'a>(
+    numbers: Numbers,
+    routeids: &'a [u16; 128],
+    dests: &'a [u8; 128],
+    protected: &'a [u16; 32],
+    faultids: &'a [u16; 32],
+    responses: &'a [u16; 32],
+    latching: &'a [u8; 32],
+    argcounts: &'a [u8; 32],
+    args: &'a [u8; 512],
+    arm: Arm,
+    counts: Counts,
+    states: &mut [u8; 32],
+    recording: &[u8],
+    out: &mut [u8],
+) -> Reached
+    ensures { λ r. ⌜ Resumes
+        (configFrom numbers (now (routeids .entry)) (now (dests .entry)) (now (protected .entry)) (now (faultids .entry)) (now (responses .entry)) (now (latching .entry)) (now (argcounts .entry)) (now (args .entry)))
+        (runFrom arm counts (now (states .entry))) (now (recording .entry)) (now (out .entry)) r (now (states .exit)) (now (out .exit)) ⌝ }
+{
+    if !statecheck::lent_keeps(
+        numbers,
+        routeids,
+        dests,
+        protected,
+        faultids,
+        responses,
+        latching,
+        argcounts,
+        args,
+        arm,
+        states,
+    ) {
+        return stopped(arm, counts, 20, 0, 0, 0);
+    }
+    inner_replay(
+        numbers,
+        routeids,
+        dests,
+        protected,
+        faultids,
+        responses,
+        latching,
+        argcounts,
+        args,
+        arm,
+        counts,
+        states,
+        recording,
+        out,
+    )
+}
+
+// The same of a configuration and a run by value.
 pub fn resume(config: Config, run: Run, recording: &[u8], out: &mut [u8]) -> Piece
     ensures told { λ r. ⌜ r ≡ pieceOf config run (now (recording .entry)) (length (now (out .entry))) ⌝ }
     ensures output { λ r. ⌜ now (out .exit) ≡ over (pieceBytes config run (now (recording .entry)) (length (now (out .entry)))) (now (out .entry)) ⌝ }
 {
-    if !statecheck::keeps_rules(config, run) {
-        return stopped(run, 20, 0, 0, 0);
+    let arm = run.arm;
+    let counts = run.counts;
+    let mut states = run.states;
+    let r = lent_resume(
+        config.numbers,
+        &config.routeids,
+        &config.dests,
+        &config.protected,
+        &config.faultids,
+        &config.responses,
+        &config.latching,
+        &config.argcounts,
+        &config.args,
+        arm,
+        counts,
+        &mut states,
+        recording,
+        out,
+    );
+    let left = r.arm;
+    let counted = r.counts;
+    Piece {
+        run: Run {
+            arm: left,
+            counts: counted,
+            states,
+        },
+        stop: r.stop,
+        read: r.read,
+        count: r.count,
+        wrote: r.wrote,
     }
-    inner_replay(config, run, recording, out)
 }
 
 // A whole recording under an image: bytes in, answers out. The load's refusal, and nothing written, where the image is refused.
@@ -118,16 +256,33 @@ pub fn replay(image: &[u8], recording: &[u8], out: &mut [u8]) -> Replayed
     }
     let config = loaded.config;
     let run = loaded.run;
-    let piece = inner_replay(config, run, recording, out);
-    let left = piece.run;
-    let counts = left.counts;
+    let arm = run.arm;
+    let counts = run.counts;
+    let mut states = run.states;
+    let reached = inner_replay(
+        config.numbers,
+        &config.routeids,
+        &config.dests,
+        &config.protected,
+        &config.faultids,
+        &config.responses,
+        &config.latching,
+        &config.argcounts,
+        &config.args,
+        arm,
+        counts,
+        &mut states,
+        recording,
+        out,
+    );
+    let last = reached.counts;
     Replayed {
         load: 0,
         offset: 0,
-        stop: piece.stop,
-        read: piece.read,
-        count: piece.count,
-        wrote: piece.wrote,
-        counts,
+        stop: reached.stop,
+        read: reached.read,
+        count: reached.count,
+        wrote: reached.wrote,
+        counts: last,
     }
 }

@@ -1,5 +1,6 @@
 -- What a replay hands back and writes: of a recording under an image, by the plain reading and nothing else; and of a piece of
 -- a recording behind a state.
+use mathlib.Core.Path.{_≡_}
 use mathlib.Core.Bool.{cond}
 use mathlib.Core.List.{List, []}
 use Prim.Native.Nat.{ℕ}
@@ -9,12 +10,14 @@ use Rattle.state.specs.declared.types.Config.{Config}
 use Rattle.state.specs.declared.types.Run.{Run}
 use Rattle.state.specs.Tables.{Tables, tablesOf}
 use Rattle.state.specs.Test.{keepsRules}
+use Rattle.dispatch.specs.Dispatch.{over}
 use Rattle.records.specs.Records.{Record, recordsOf}
 use Rattle.image.specs.Image.{loadOf}
 use Rattle.history.specs.Plain.{Event, Reply, replies, latestFirst}
 use Rattle.history.specs.Path.{run, after}
 use Rattle.history.specs.Known.{knownCounts}
 use Rattle.replayrules.specs.declared.types.Piece.{Piece}
+use Rattle.replayrules.specs.declared.types.Reached.{Reached}
 use Rattle.replayrules.specs.declared.types.Replayed.{Replayed}
 use Rattle.replayrules.specs.Recording.{eventsOf, firstRefusal, bytesIn, flat, fitting}
 
@@ -46,6 +49,11 @@ piece t s rs xs =
 abbrev pub stoppedAt : Run → ℕ → ℕ → ℕ → ℕ → Piece
 stoppedAt s n read count wrote = record { run = s; stop = n; read = read; count = count; wrote = wrote }
 
+-- what it came to and the fault states that were lent are the piece
+abbrev pub pieceLeft : Reached → List ℕ → Piece
+pieceLeft r states =
+    record { run = record { arm = r .arm; counts = r .counts; states = states }; stop = r .stop; read = r .read; count = r .count; wrote = r .wrote }
+
 -- nothing read, nothing answered, nothing written
 abbrev pub idle : Run → ℕ → Piece
 idle s n = stoppedAt s n 0 0 0
@@ -57,6 +65,16 @@ pieceOf c s recording room =
 
 unfoldable pub pieceBytes : Config → Run → List ℕ → ℕ → List ℕ
 pieceBytes c s recording room = cond (keepsRules c s) (flat (pathReplies (tablesOf c) s (recordsOf recording) room)) []
+
+-- a recording behind a state that keeps its rules, with the fault states lent: what it comes to, and what it writes
+pub record Replays (c : Config) (s : Run) (recording out : List ℕ) (r : Reached) (states left : List ℕ) : Type 0 where
+  pub told : pieceLeft r states ≡ piece (tablesOf c) s (recordsOf recording) (pathReplies (tablesOf c) s (recordsOf recording) (length out))
+  pub output : left ≡ over (flat (pathReplies (tablesOf c) s (recordsOf recording) (length out))) out
+
+-- a recording behind any state
+pub record Resumes (c : Config) (s : Run) (recording out : List ℕ) (r : Reached) (states left : List ℕ) : Type 0 where
+  pub told : pieceLeft r states ≡ pieceOf c s recording (length out)
+  pub output : left ≡ over (pieceBytes c s recording (length out)) out
 
 -- ---- a recording under an image, by the plain reading: no running state
 

@@ -22,22 +22,19 @@ use Rattle.history.specs.Agree.{agree, counters}
 use Rattle.replayrules.specs.declared.types.Piece.{Piece}
 use Rattle.replayrules.specs.declared.types.Replayed.{Replayed}
 use Rattle.replayrules.specs.Recording.{eventsOf, bytesIn, flat, fitting}
-use Rattle.replayrules.specs.Replay.{stopOf, answered, pathReplies, piece, idle, pieceOf, pieceBytes, plainReplies, replayed, unloaded, replayOf, replayBytes}
+use Rattle.replayrules.specs.declared.types.Reached.{Reached}
+use Rattle.replayrules.specs.Replay.{Replays, Resumes, stopOf, answered, pathReplies, piece, pieceOf, pieceBytes, plainReplies, replayed, unloaded, replayOf, replayBytes}
 
 -- ---- a piece behind any state
 
 module _ (c : Config) (s : Run) (recording out : List ℕ) where
-  abbrev there : List Reply
-  there = pathReplies (tablesOf c) s (recordsOf recording) (length out)
-
-  pub breaks : keepsRules c s ≡ false → (idle s 20 ≡ pieceOf c s recording (length out)) × (out ≡ over (pieceBytes c s recording (length out)) out)
+  pub breaks : keepsRules c s ≡ false → Resumes c s recording out (record { arm = s .arm; counts = s .counts; stop = 20; read = 0; count = 0; wrote = 0 }) (s .states) out
   unfolding pieceOf pieceBytes
-  breaks e = rw e (refl, refl)
+  breaks e = record { told = rw e refl; output = rw e refl }
 
-  pub keeps : keepsRules c s ≡ true → {p : Piece} → p ≡ piece (tablesOf c) s (recordsOf recording) there → {left : List ℕ} → left ≡ over (flat there) out
-      → (p ≡ pieceOf c s recording (length out)) × (left ≡ over (pieceBytes c s recording (length out)) out)
+  pub keeps : keepsRules c s ≡ true → {r : Reached} {states left : List ℕ} → Replays c s recording out r states left → Resumes c s recording out r states left
   unfolding pieceOf pieceBytes
-  keeps e p o = rw e (p, o)
+  keeps e h = record { told = h .told ∙ rw e refl; output = h .output ∙ rw e refl }
 
 -- ---- a recording under any image
 

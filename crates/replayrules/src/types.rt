@@ -1,4 +1,5 @@
 // What a replay hands back.
+use state::types::Arm;
 use state::types::Counts;
 use state::types::Run;
 
@@ -9,6 +10,16 @@ pub struct Piece {
     // 0 all of it was read; 1, 2 or 3 the first bad record; 21 the output room
     pub stop: u8,
     // bytes of the recording that were read, events that were answered, bytes of the output that were written
+    pub read: usize,
+    pub count: usize,
+    pub wrote: usize,
+}
+
+// The same where the fault states are lent: they are left where they stand.
+pub struct Reached {
+    pub arm: Arm,
+    pub counts: Counts,
+    pub stop: u8,
     pub read: usize,
     pub count: usize,
     pub wrote: usize,

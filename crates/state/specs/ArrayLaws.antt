@@ -172,22 +172,22 @@ arrays-sized t f =
 -- ---- the tables of arrays: their counts, and their ids are the first of their columns
 
 module _ (c : Config) where
-  pub routes-count : length (tablesOf c .routes) ≡ c .nroutes
-  routes-count = length-listed (routeAt (c .routeids) (c .dests)) 0 (c .nroutes)
+  pub routes-count : length (tablesOf c .routes) ≡ c .numbers .nroutes
+  routes-count = length-listed (routeAt (c .routeids) (c .dests)) 0 (c .numbers .nroutes)
 
-  pub protected-count : c .nprotected ≤ length (c .protected) → length (tablesOf c .protected) ≡ c .nprotected
-  protected-count h = length-take-le (c .nprotected) (c .protected) h
+  pub protected-count : c .numbers .nprotected ≤ length (c .protected) → length (tablesOf c .protected) ≡ c .numbers .nprotected
+  protected-count h = length-take-le (c .numbers .nprotected) (c .protected) h
 
-  pub rows-count : length (tablesOf c .rows) ≡ c .nrows
-  rows-count = length-listed (rowAt (c .faultids) (c .responses) (c .latching) (c .argcounts) (c .args)) 0 (c .nrows)
+  pub rows-count : length (tablesOf c .rows) ≡ c .numbers .nrows
+  rows-count = length-listed (rowAt (c .faultids) (c .responses) (c .latching) (c .argcounts) (c .args)) 0 (c .numbers .nrows)
 
-  pub routed-is : c .nroutes ≤ length (c .routeids) → routed (tablesOf c) ≡ take (c .nroutes) (c .routeids)
-  routed-is h = map-listed routeId (routeAt (c .routeids) (c .dests)) 0 (c .nroutes) ∙ column-is (c .routeids) (c .nroutes) h
+  pub routed-is : c .numbers .nroutes ≤ length (c .routeids) → routed (tablesOf c) ≡ take (c .numbers .nroutes) (c .routeids)
+  routed-is h = map-listed routeId (routeAt (c .routeids) (c .dests)) 0 (c .numbers .nroutes) ∙ column-is (c .routeids) (c .numbers .nroutes) h
 
-  pub fault-ids-are : c .nrows ≤ length (c .faultids) → map faultId (tablesOf c .rows) ≡ take (c .nrows) (c .faultids)
+  pub fault-ids-are : c .numbers .nrows ≤ length (c .faultids) → map faultId (tablesOf c .rows) ≡ take (c .numbers .nrows) (c .faultids)
   fault-ids-are h =
-      map-listed faultId (rowAt (c .faultids) (c .responses) (c .latching) (c .argcounts) (c .args)) 0 (c .nrows)
-      ∙ column-is (c .faultids) (c .nrows) h
+      map-listed faultId (rowAt (c .faultids) (c .responses) (c .latching) (c .argcounts) (c .args)) 0 (c .numbers .nrows)
+      ∙ column-is (c .faultids) (c .numbers .nrows) h
 
 -- ---- tables that keep their rules keep them in arrays, with a fresh run
 

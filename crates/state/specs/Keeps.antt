@@ -66,14 +66,14 @@ ArgsClear [] xs = Clear xs
 ArgsClear (n ∷ counts) xs = (n ≤ 16) × Clear (drop n (take 16 xs)) × ArgsClear counts (drop 16 xs)
 
 pub record Unused (c : Config) : Type 0 where
-  pub routeids-clear : Clear (drop (c .nroutes) (c .routeids))
-  pub dests-clear : Clear (drop (c .nroutes) (c .dests))
-  pub protected-clear : Clear (drop (c .nprotected) (c .protected))
-  pub faultids-clear : Clear (drop (c .nrows) (c .faultids))
-  pub responses-clear : Clear (drop (c .nrows) (c .responses))
-  pub latching-clear : Clear (drop (c .nrows) (c .latching))
-  pub argcounts-clear : Clear (drop (c .nrows) (c .argcounts))
-  pub args-clear : ArgsClear (take (c .nrows) (c .argcounts)) (c .args)
+  pub routeids-clear : Clear (drop (c .numbers .nroutes) (c .routeids))
+  pub dests-clear : Clear (drop (c .numbers .nroutes) (c .dests))
+  pub protected-clear : Clear (drop (c .numbers .nprotected) (c .protected))
+  pub faultids-clear : Clear (drop (c .numbers .nrows) (c .faultids))
+  pub responses-clear : Clear (drop (c .numbers .nrows) (c .responses))
+  pub latching-clear : Clear (drop (c .numbers .nrows) (c .latching))
+  pub argcounts-clear : Clear (drop (c .numbers .nrows) (c .argcounts))
+  pub args-clear : ArgsClear (take (c .numbers .nrows) (c .argcounts)) (c .args)
 
 -- ---- declared: the run
 
@@ -102,7 +102,7 @@ pub record RunOk (t : Tables) (r : Run) : Type 0 where
 -- a state that keeps its rules. The protected ids are taken from their array, whose length would hide a larger count from
 -- `rules`; the other two tables have as many rows as their counts say
 pub record Keeps (c : Config) (r : Run) : Type 0 where
-  pub within : c .nprotected ≤ 32
+  pub within : c .numbers .nprotected ≤ 32
   pub rules : Rules (tablesOf c)
   pub unused : Unused c
   pub run-ok : RunOk (tablesOf c) r

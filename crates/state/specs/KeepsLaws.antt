@@ -243,35 +243,35 @@ module _ {c : Config} where
   unfolding unusedClear
   unused-kept k =
       simp (
-        clear-kept (drop (c .nroutes) (c .routeids)) (k .routeids-clear),
-        clear-kept (drop (c .nroutes) (c .dests)) (k .dests-clear),
-        clear-kept (drop (c .nprotected) (c .protected)) (k .protected-clear),
-        clear-kept (drop (c .nrows) (c .faultids)) (k .faultids-clear),
-        clear-kept (drop (c .nrows) (c .responses)) (k .responses-clear),
-        clear-kept (drop (c .nrows) (c .latching)) (k .latching-clear),
-        clear-kept (drop (c .nrows) (c .argcounts)) (k .argcounts-clear),
-        args-kept (take (c .nrows) (c .argcounts)) (c .args) (k .args-clear),
+        clear-kept (drop (c .numbers .nroutes) (c .routeids)) (k .routeids-clear),
+        clear-kept (drop (c .numbers .nroutes) (c .dests)) (k .dests-clear),
+        clear-kept (drop (c .numbers .nprotected) (c .protected)) (k .protected-clear),
+        clear-kept (drop (c .numbers .nrows) (c .faultids)) (k .faultids-clear),
+        clear-kept (drop (c .numbers .nrows) (c .responses)) (k .responses-clear),
+        clear-kept (drop (c .numbers .nrows) (c .latching)) (k .latching-clear),
+        clear-kept (drop (c .numbers .nrows) (c .argcounts)) (k .argcounts-clear),
+        args-kept (take (c .numbers .nrows) (c .argcounts)) (c .args) (k .args-clear),
       )
 
   pub unused-keeps : unusedClear c ≡ true → Unused c
   unfolding unusedClear
   unused-keeps e =
-      let a = both (clear (drop (c .nroutes) (c .routeids))) _ e in
-      let b = both (clear (drop (c .nroutes) (c .dests))) _ (a .1) in
-      let d = both (clear (drop (c .nprotected) (c .protected))) _ (b .1) in
-      let f = both (clear (drop (c .nrows) (c .faultids))) _ (d .1) in
-      let g = both (clear (drop (c .nrows) (c .responses))) _ (f .1) in
-      let h = both (clear (drop (c .nrows) (c .latching))) _ (g .1) in
-      let i = both (clear (drop (c .nrows) (c .argcounts))) _ (h .1) in
+      let a = both (clear (drop (c .numbers .nroutes) (c .routeids))) _ e in
+      let b = both (clear (drop (c .numbers .nroutes) (c .dests))) _ (a .1) in
+      let d = both (clear (drop (c .numbers .nprotected) (c .protected))) _ (b .1) in
+      let f = both (clear (drop (c .numbers .nrows) (c .faultids))) _ (d .1) in
+      let g = both (clear (drop (c .numbers .nrows) (c .responses))) _ (f .1) in
+      let h = both (clear (drop (c .numbers .nrows) (c .latching))) _ (g .1) in
+      let i = both (clear (drop (c .numbers .nrows) (c .argcounts))) _ (h .1) in
       record {
-        routeids-clear = clear-keeps (drop (c .nroutes) (c .routeids)) (a .0);
-        dests-clear = clear-keeps (drop (c .nroutes) (c .dests)) (b .0);
-        protected-clear = clear-keeps (drop (c .nprotected) (c .protected)) (d .0);
-        faultids-clear = clear-keeps (drop (c .nrows) (c .faultids)) (f .0);
-        responses-clear = clear-keeps (drop (c .nrows) (c .responses)) (g .0);
-        latching-clear = clear-keeps (drop (c .nrows) (c .latching)) (h .0);
-        argcounts-clear = clear-keeps (drop (c .nrows) (c .argcounts)) (i .0);
-        args-clear = args-keeps (take (c .nrows) (c .argcounts)) (c .args) (i .1);
+        routeids-clear = clear-keeps (drop (c .numbers .nroutes) (c .routeids)) (a .0);
+        dests-clear = clear-keeps (drop (c .numbers .nroutes) (c .dests)) (b .0);
+        protected-clear = clear-keeps (drop (c .numbers .nprotected) (c .protected)) (d .0);
+        faultids-clear = clear-keeps (drop (c .numbers .nrows) (c .faultids)) (f .0);
+        responses-clear = clear-keeps (drop (c .numbers .nrows) (c .responses)) (g .0);
+        latching-clear = clear-keeps (drop (c .numbers .nrows) (c .latching)) (h .0);
+        argcounts-clear = clear-keeps (drop (c .numbers .nrows) (c .argcounts)) (i .0);
+        args-clear = args-keeps (take (c .numbers .nrows) (c .argcounts)) (c .args) (i .1);
       }
 
 module _ {t : Tables} {r : Run} where
@@ -297,18 +297,18 @@ module _ {nroutes nprotected nrows : ℕ} where
       let b = both (leb nprotected 32) _ (a .1) in
       (leb-true _ _ (a .0), leb-true _ _ (b .0), leb-true _ _ (b .1))
 
-pub config-kept : (c : Config) → c .nprotected ≤ 32 → Rules (tablesOf c) → Unused c → configKept c ≡ true
+pub config-kept : (c : Config) → c .numbers .nprotected ≤ 32 → Rules (tablesOf c) → Unused c → configKept c ≡ true
 unfolding configKept
 config-kept c within rules unused =
-    let n = length-listed (routeAt (c .routeids) (c .dests)) 0 (c .nroutes) in
-    let m = length-listed (rowAt (c .faultids) (c .responses) (c .latching) (c .argcounts) (c .args)) 0 (c .nrows) in
-    let few : (c .nroutes ≤ 128) × (c .nprotected ≤ 32) × (c .nrows ≤ 32) = omega (arith, rules .few-routes, rules .few-rows) in
+    let n = length-listed (routeAt (c .routeids) (c .dests)) 0 (c .numbers .nroutes) in
+    let m = length-listed (rowAt (c .faultids) (c .responses) (c .latching) (c .argcounts) (c .args)) 0 (c .numbers .nrows) in
+    let few : (c .numbers .nroutes ≤ 128) × (c .numbers .nprotected ≤ 32) × (c .numbers .nrows ≤ 32) = omega (arith, rules .few-routes, rules .few-rows) in
     simp (counts-kept few, rules-kept rules, unused-kept unused)
 
-pub config-keeps : (c : Config) → configKept c ≡ true → (c .nprotected ≤ 32) × Rules (tablesOf c) × Unused c
+pub config-keeps : (c : Config) → configKept c ≡ true → (c .numbers .nprotected ≤ 32) × Rules (tablesOf c) × Unused c
 unfolding configKept
 config-keeps c e =
-    let a = both (counted (c .nroutes) (c .nprotected) (c .nrows)) _ e in
+    let a = both (counted (c .numbers .nroutes) (c .numbers .nprotected) (c .numbers .nrows)) _ e in
     let b = both (rulesKept (tablesOf c)) _ (a .1) in
     let few = counts-keeps (a .0) in
     let unused = unused-keeps {c = c} (b .1) in (
@@ -319,8 +319,8 @@ config-keeps c e =
             few-protected = simp length-take (omega arith);
             few-rows = simp length-listed (few .2);
             few-args =
-                each-listed (λ r. length (r .args) ≤ 16) (rowAt (c .faultids) (c .responses) (c .latching) (c .argcounts) (c .args)) 0 (c .nrows)
-                (λ i l. let m = few-counted (c .nrows) i (c .argcounts) (c .args) (unused .args-clear) (omega arith) in simp length-take (omega arith));
+                each-listed (λ r. length (r .args) ≤ 16) (rowAt (c .faultids) (c .responses) (c .latching) (c .argcounts) (c .args)) 0 (c .numbers .nrows)
+                (λ i l. let m = few-counted (c .numbers .nrows) i (c .argcounts) (c .args) (unused .args-clear) (omega arith) in simp length-take (omega arith));
           },
       unused,
     )

@@ -7,7 +7,7 @@ use native.Mathlib.Omega.{arith}
 use lib.Dec.{eqb, ltb, leb·suc-suc}
 use lib.ListN.{length, take}
 use lib.Seq.{length-take-le}
-use borrow.Author.Tests.{lt-ltb, le-ltb}
+use borrow.Author.Tests.{lt-ltb, le-ltb, ltb-true}
 use Rattle.state.specs.Rules.{member}
 use Rattle.state.specs.Lookup.{placeIn, Column}
 
@@ -29,6 +29,9 @@ module _ {limit : ℕ} {ids : List ℕ} {n : ℕ} (c : Column limit ids n) (id k
 
   pub is-member : k < n → member id (take n ids) ≡ true
   is-member h = sym below-member ∙ lt-ltb k n h
+
+  pub member-below : member id (take n ids) ≡ true → k < n
+  member-below h = ltb-true k n (below-member ∙ h)
 
   pub no-member : n ≤ k → member id (take n ids) ≡ false
   no-member h = sym below-member ∙ le-ltb k n h

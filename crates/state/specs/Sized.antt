@@ -1,9 +1,11 @@
 -- The lengths of the arrays that a Config and a Run of the code always have; a record of lists by itself does not say so.
 use mathlib.Core.Path.{_≡_}
-use Prim.Native.Nat.{_*_, _≤_}
+use mathlib.Core.List.{List}
+use Prim.Native.Nat.{ℕ}
 use lib.ListN.{length}
 use Rattle.state.specs.declared.types.Config.{Config}
 use Rattle.state.specs.declared.types.Run.{Run}
+use Rattle.state.specs.Keeps.{Keeps}
 
 pub record Sized (c : Config) : Type 0 where
   pub routeids-128 : length (c .routeids) ≡ 128
@@ -18,9 +20,13 @@ pub record Sized (c : Config) : Type 0 where
 pub record SizedRun (r : Run) : Type 0 where
   pub states-32 : length (r .states) ≡ 32
 
--- so counts that keep their limits stay within the arrays, table by table as the judge goes through them
-pub record Within (c : Config) (r : Run) : Type 0 where
-  pub routes : (c .nroutes ≤ length (c .routeids)) × (c .nroutes ≤ length (c .dests)) × (c .nprotected ≤ length (c .protected))
-  pub rows : (c .nroutes ≤ length (c .routeids)) × (c .nrows ≤ length (c .faultids)) × (c .nrows ≤ length (c .responses)) × (c .nrows ≤ length (c .latching))
-  pub args : (c .nrows ≤ length (c .argcounts)) × (16 * c .nrows ≤ length (c .args))
-  pub run : (c .nrows ≤ length (c .latching)) × (c .nrows ≤ length (r .states))
+-- the same of lent columns and fault states
+pub record LentSized (c : Config) (states : List ℕ) : Type 0 where
+  pub columns : Sized c
+  pub states-32 : length states ≡ 32
+
+-- a state that keeps its rules, whose columns and fault states may be lent
+pub record LentState (c : Config) (r : Run) : Type 0 where
+  pub keeps : Keeps c r
+  pub sized : Sized c
+  pub sized-run : SizedRun r

@@ -3,7 +3,10 @@ use mathlib.Core.Bool.{false}
 use mathlib.Core.List.{List, [], _∷_, _++_, map}
 use Prim.Native.Nat.{ℕ, zero, suc, _-_, _*_}
 use lib.ListN.{length, getD, take, drop, replicate}
+use Rattle.state.specs.declared.types.Numbers.{Numbers}
 use Rattle.state.specs.declared.types.Config.{Config}
+use Rattle.state.specs.declared.types.Arm.{Arm}
+use Rattle.state.specs.declared.types.Counts.{Counts}
 use Rattle.state.specs.declared.types.Run.{Run}
 
 -- ---- rows
@@ -64,13 +67,32 @@ rowAt ids responses latching counts args k =
 abbrev pub tablesOf : Config → Tables
 tablesOf c =
     record {
-      ground = c .ground;
-      fault = c .fault;
-      base = c .base;
-      routes = listed (routeAt (c .routeids) (c .dests)) 0 (c .nroutes);
-      protected = take (c .nprotected) (c .protected);
-      rows = listed (rowAt (c .faultids) (c .responses) (c .latching) (c .argcounts) (c .args)) 0 (c .nrows);
+      ground = c .numbers .ground;
+      fault = c .numbers .fault;
+      base = c .numbers .base;
+      routes = listed (routeAt (c .routeids) (c .dests)) 0 (c .numbers .nroutes);
+      protected = take (c .numbers .nprotected) (c .protected);
+      rows = listed (rowAt (c .faultids) (c .responses) (c .latching) (c .argcounts) (c .args)) 0 (c .numbers .nrows);
     }
+
+-- the configuration of lent columns, in the order of its fields
+abbrev pub configFrom : Numbers → List ℕ → List ℕ → List ℕ → List ℕ → List ℕ → List ℕ → List ℕ → List ℕ → Config
+configFrom numbers routeids dests protected faultids responses latching argcounts args =
+    record {
+      numbers = numbers;
+      routeids = routeids;
+      dests = dests;
+      protected = protected;
+      faultids = faultids;
+      responses = responses;
+      latching = latching;
+      argcounts = argcounts;
+      args = args;
+    }
+
+-- and the run of an arm record, counters and lent fault states
+abbrev pub runFrom : Arm → Counts → List ℕ → Run
+runFrom arm counts states = record { arm = arm; counts = counts; states = states }
 
 -- ---- written into arrays
 
@@ -89,15 +111,18 @@ argsOf r = r .args
 abbrev pub configOf : Tables → Config
 configOf t =
     record {
-      ground = t .ground;
-      fault = t .fault;
-      base = t .base;
-      nroutes = length (t .routes);
+      numbers =
+          record {
+            ground = t .ground;
+            fault = t .fault;
+            base = t .base;
+            nroutes = length (t .routes);
+            nprotected = length (t .protected);
+            nrows = length (t .rows);
+          };
       routeids = padded 128 (map routeId (t .routes));
       dests = padded 128 (map (λ r. r .dest) (t .routes));
-      nprotected = length (t .protected);
       protected = padded 32 (t .protected);
-      nrows = length (t .rows);
       faultids = padded 32 (map faultId (t .rows));
       responses = padded 32 (map (λ r. r .response) (t .rows));
       latching = padded 32 (map (λ r. r .latching) (t .rows));

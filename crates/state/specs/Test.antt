@@ -54,17 +54,17 @@ counted nroutes nprotected nrows = leb nroutes 128 && (leb nprotected 32 && leb 
 
 unfoldable pub unusedClear : Config → Bool
 unusedClear c =
-    clear (drop (c .nroutes) (c .routeids))
-    && (clear (drop (c .nroutes) (c .dests))
-    && (clear (drop (c .nprotected) (c .protected))
-    && (clear (drop (c .nrows) (c .faultids))
-    && (clear (drop (c .nrows) (c .responses))
-    && (clear (drop (c .nrows) (c .latching))
-    && (clear (drop (c .nrows) (c .argcounts))
-    && argsClear (take (c .nrows) (c .argcounts)) (c .args)))))))
+    clear (drop (c .numbers .nroutes) (c .routeids))
+    && (clear (drop (c .numbers .nroutes) (c .dests))
+    && (clear (drop (c .numbers .nprotected) (c .protected))
+    && (clear (drop (c .numbers .nrows) (c .faultids))
+    && (clear (drop (c .numbers .nrows) (c .responses))
+    && (clear (drop (c .numbers .nrows) (c .latching))
+    && (clear (drop (c .numbers .nrows) (c .argcounts))
+    && argsClear (take (c .numbers .nrows) (c .argcounts)) (c .args)))))))
 
 unfoldable pub configKept : Config → Bool
-configKept c = counted (c .nroutes) (c .nprotected) (c .nrows) && (rulesKept (tablesOf c) && unusedClear c)
+configKept c = counted (c .numbers .nroutes) (c .numbers .nprotected) (c .numbers .nrows) && (rulesKept (tablesOf c) && unusedClear c)
 
 unfoldable pub armOk : Bool → ℕ → Bool
 armOk armed ticks = cond armed (leb ticks mostTicks) (eqb ticks 0)

@@ -1,18 +1,25 @@
 // What the state is made of. The tables stand in arrays of numbers, one array for each column, because that is what a step
 // looks through fastest; rows that are not in use are zero.
 
-// The configuration: sources, own base, and the three tables with the counts of their rows in use.
+// The numbers of a configuration: sources, own base, and the rows in use of each table. They go by value, beside lent columns.
 #[repr(C)]
-pub struct Config {
+pub struct Numbers {
     pub ground: u16,
     pub fault: u16,
     pub base: u16,
     pub nroutes: usize,
+    pub nprotected: usize,
+    pub nrows: usize,
+}
+
+// The configuration: its numbers, and the columns of the three tables. A step is lent the columns that it looks at, and copies
+// none.
+#[repr(C)]
+pub struct Config {
+    pub numbers: Numbers,
     pub routeids: [u16; 128],
     pub dests: [u8; 128],
-    pub nprotected: usize,
     pub protected: [u16; 32],
-    pub nrows: usize,
     pub faultids: [u16; 32],
     pub responses: [u16; 32],
     pub latching: [u8; 32],

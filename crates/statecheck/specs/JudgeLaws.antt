@@ -1,32 +1,39 @@
--- What the judge of a state asks is the test of `Test`: its walks see arrays where the test speaks of rows, and a row without
--- its arguments where they do not count.
-use mathlib.Core.Path.{_≡_, refl, sym, _∙_}
-use mathlib.Core.Bool.{Bool, true, false, _&&_, and-false, and-assoc}
-use mathlib.Core.List.{List, [], _∷_}
+-- What the judge of a state asks, one part after the other, is the test of `Test`: its walks see arrays where the test speaks of
+-- rows, and a row without its arguments where they do not count.
+use mathlib.Core.Path.{_≡_, refl, sym, ap, _∙_}
+use mathlib.Core.Bool.{Bool, true, false, not, _&&_, and-true, and-false, and-self, and-assoc}
+use mathlib.Core.List.{List, [], _∷_, _++_}
 use Prim.Native.Nat.{ℕ, zero, suc, _≤_}
 use native.Mathlib.Omega.{arith}
 use lib.ListN.{length, getD, take, drop}
 use Rattle.state.specs.declared.types.Config.{Config}
+use Rattle.state.specs.declared.types.Arm.{Arm}
+use Rattle.state.specs.declared.types.Counts.{Counts}
 use Rattle.state.specs.declared.types.Run.{Run}
-use Rattle.state.specs.Tables.{routeId, faultId, listed, routeAt, rowAt}
-use Rattle.state.specs.Sized.{Sized, SizedRun, Within}
+use Rattle.state.specs.Tables.{FaultRow, routeId, faultId, listed, routeAt, rowAt, tablesOf}
+use Rattle.state.specs.Sized.{Sized, LentSized}
+use Rattle.state.specs.ArrayLaws.{map-listed, column-is, routed-is}
 use Rattle.state.specs.Rules.{basicsOk}
-use Rattle.state.specs.Keeps.{Rising}
+use Rattle.state.specs.Keeps.{Rising, Each}
 use Rattle.state.specs.Lookup.{Column}
-use Rattle.state.specs.Test.{risingAll, rowPasses, clear, routesKept, rowsKept, rulesKept, counted, unusedClear, configKept, statesOk, runKept, keepsRules}
-use Rattle.tablecheck.specs.Parts.{bare, routesPart, rowsPart, argsPart, runPart}
-use Rattle.state.specs.KeepsLaws.{both, rising-keeps, route-keeps, counts-keeps}
-use Rattle.arraycheck.specs.Walks.{routed-is}
+use Rattle.state.specs.Test.{risingAll, rowPasses, clear, argsClear, routesKept, rowsKept, rulesKept, counted, unusedClear, configKept, armOk, stateOk, statesOk, runKept, keepsRules}
+use Rattle.state.specs.KeepsLaws.{split, both, rising-keeps, route-keeps, counts-keeps}
+use Rattle.arraycheck.specs.Each.{each}
+use Rattle.arraycheck.specs.Walks.{refuted, held}
+use Rattle.tablecheck.specs.Parts.{bare, routesPart}
 
 -- routes that pass rise
-pub routes-rise : (base : ℕ) (ids dests : List ℕ) (n : ℕ) → n ≤ length ids → routesKept base (listed (routeAt ids dests) 0 n) ≡ true → Rising 0 (take n ids)
-unfolding routesKept
-routes-rise base ids dests n l e =
-    rw routed-is at (rising-keeps routeId (λ r h. route-keeps h) 0 (listed (routeAt ids dests) 0 n) e .0)
-
 pub routes-column : (base : ℕ) (ids dests : List ℕ) (n : ℕ) → (length ids ≡ 128) × (n ≤ length ids) → routesKept base (listed (routeAt ids dests) 0 n) ≡ true
     → Column 128 ids n
-routes-column base ids dests n (l, m) e = record { long = l; within = omega arith; rise = routes-rise base ids dests n (omega arith) e }
+unfolding routesKept
+routes-column base ids dests n (l, m) e =
+    record {
+      long = l;
+      within = omega arith;
+      rise =
+          rw (map-listed routeId (routeAt ids dests) 0 n, column-is ids n m) at
+          (rising-keeps routeId (λ r h. route-keeps h) 0 (listed (routeAt ids dests) 0 n) e .0);
+    }
 
 -- a row's arguments count neither for its rule nor for its state
 module _ (ids responses latching counts args : List ℕ) where
@@ -41,56 +48,97 @@ module _ (ids responses latching counts args : List ℕ) where
   bare-states k (suc n) [] = refl
   bare-states k (suc n) (s ∷ ss) = simp (bare-states (suc k) n ss)
 
--- counts that keep their limits stay within the arrays
-pub counts-within : {c : Config} {r : Run} → Sized c → SizedRun r → counted (c .nroutes) (c .nprotected) (c .nrows) ≡ true → Within c r
-counts-within s t e =
-    let n = counts-keeps e in
-    record { routes = omega arith; rows = omega arith; args = omega arith; run = omega arith }
-
 and-swap : (a b c : Bool) → (a && (b && c)) ≡ (b && (a && c))
 and-swap true b c = refl
 and-swap false b c = sym (and-false b)
 
-module _ (c : Config) (r : Run) where
-  pub miscounted : counted (c .nroutes) (c .nprotected) (c .nrows) ≡ false → false ≡ keepsRules c r
-  unfolding keepsRules configKept
-  miscounted e = simp e
+-- that zero stands behind the states is asked with the other columns, and once more
+behind : (f : ℕ → FaultRow) (k n : ℕ) (ss : List ℕ) → statesOk (listed f k n) ss ≡ (clear (drop n ss) && statesOk (listed f k n) ss)
+behind f k zero ss = sym (and-self (clear ss))
+behind f k (suc n) [] = refl
+behind f k (suc n) (s ∷ ss) =
+    ap (λ (b : Bool). stateOk (f k .latching) s && b) (behind f (suc k) n ss) ∙ and-swap (stateOk (f k .latching) s) (clear (drop n ss)) (statesOk (listed f (suc k) n) ss)
 
-  -- the test of a state whose counts are right, part by part: the rows' rule moves past what belongs to the routes
-  parts : Sized c → counted (c .nroutes) (c .nprotected) (c .nrows) ≡ true
-      → (basicsOk (c .ground) (c .fault) (c .base)
-      && (routesPart (c .base) (c .routeids) (c .dests) (c .nroutes) (c .protected) (c .nprotected)
-      && (rowsPart (c .routeids) (c .nroutes) (c .faultids) (c .responses) (c .latching) (c .nrows)
-      && (argsPart (c .argcounts) (c .nrows) (c .args)
-      && runPart (r .arm .armed) (r .arm .ticks) (c .latching) (c .nrows) (r .states)))))
-      ≡ keepsRules c r
+-- ---- the parts in the order in which they are asked
+
+abbrev pub asked : Config → Arm → List ℕ → List Bool
+asked c a states =
+    let n = c .numbers in
+    let m = n .nrows in
+    counted (n .nroutes) (n .nprotected) m
+    ∷ armOk (a .armed) (a .ticks)
+    ∷ basicsOk (n .ground) (n .fault) (n .base)
+    ∷ routesPart (n .base) (c .routeids) (c .dests) (n .nroutes) (c .protected) (n .nprotected)
+    ∷ rowsKept (take (n .nroutes) (c .routeids)) (bare (c .faultids) (c .responses) (c .latching) m)
+    ∷ (clear (drop m (c .faultids)) && clear (drop m (c .responses)))
+    ∷ (clear (drop m (c .latching)) && (clear (drop m (c .argcounts)) && clear (drop m states)))
+    ∷ argsClear (take m (c .argcounts)) (c .args)
+    ∷ statesOk (bare [] [] (c .latching) m) states
+    ∷ []
+
+abbrev all : List Bool → Bool
+all ps = each (λ p. p) ps
+
+one-fails : (k : ℕ) (ps : List Bool) → getD ps k true ≡ false → false ≡ all ps
+one-fails k [] e = sym e
+one-fails zero (p ∷ ps) e = rw e
+one-fails (suc k) (p ∷ ps) e = sym (rw (← one-fails k ps e) (and-false p))
+
+last-decides : (ps : List Bool) (b : Bool) → Each (λ p. p ≡ true) ps → b ≡ all (ps ++ b ∷ [])
+last-decides [] b h = sym (and-true b)
+last-decides (p ∷ ps) b h = rw (h .0) (last-decides ps b (h .1))
+
+module _ (c : Config) (r : Run) (s : Sized c) where
+  -- the test goes through the rows' rule before what the routes do not use, and through the run last
+  asked-all : keepsRules c r ≡ all (asked c (r .arm) (r .states))
   unfolding keepsRules configKept rulesKept unusedClear runKept rowsKept
-  parts s e =
-      let rows = rowsKept (take (c .nroutes) (c .routeids)) (bare (c .faultids) (c .responses) (c .latching) (c .nrows)) in
-      rw (
-        routed-is (c .routeids) (c .dests) (c .nroutes) (omega (arith, s .routeids-128, counts-keeps e)),
+  asked-all =
+      let n = c .numbers in
+      let m = n .nrows in
+      let arm = armOk (r .arm .armed) (r .arm .ticks) in
+      let states = statesOk (tablesOf c .rows) (r .states) in
+      let rows = rowsKept (take (n .nroutes) (c .routeids)) (bare (c .faultids) (c .responses) (c .latching) m) in
+      and-swap (configKept c) arm states
+      ∙ split ((arm && (configKept c && states)) ≡ all (asked c (r .arm) (r .states))) (counted (n .nroutes) (n .nprotected) m)
+      (λ e. rw (
+        routed-is c (omega (arith, s .routeids-128, counts-keeps e)),
         bare-rising (c .faultids) (c .responses) (c .latching) (c .argcounts) (c .args),
         bare-states (c .faultids) (c .responses) (c .latching) (c .argcounts) (c .args),
       )
-      (simp (e, and-assoc)
-      (rw (and-swap (clear (drop (c .nprotected) (c .protected))) rows, and-swap (clear (drop (c .nroutes) (c .dests))) rows, and-swap (clear (drop (c .nroutes) (c .routeids))) rows)))
+      (simp (e, and-assoc, and-true)
+      (rw (
+        and-swap rows (clear (drop (n .nroutes) (c .routeids))),
+        and-swap rows (clear (drop (n .nroutes) (c .dests))),
+        and-swap rows (clear (drop (n .nprotected) (c .protected))),
+        and-swap (clear (drop m (r .states))) (argsClear (take m (c .argcounts)) (c .args)),
+        ← behind (rowAt [] [] (c .latching) [] []) 0 m (r .states),
+      ))))
+      (λ e. simp (e, and-false))
 
-  abbrev routes-pass : Bool
-  routes-pass = routesPart (c .base) (c .routeids) (c .dests) (c .nroutes) (c .protected) (c .nprotected)
+-- so the judge answers with the first part that fails, or with the last
+abbrev pub Judged : Config → Arm → List ℕ → Bool → Type 0
+Judged c a states x = ((counts : Counts) → x ≡ keepsRules c (record { arm = a; counts = counts; states = states })) × LentSized c states
 
-  pub misrouted : Sized c → counted (c .nroutes) (c .nprotected) (c .nrows) ≡ true → routes-pass ≡ false → false ≡ keepsRules c r
-  misrouted s e f = sym (and-false (basicsOk (c .ground) (c .fault) (c .base))) ∙ rw f at (parts s e)
+module _ {c : Config} {states : List ℕ} (s : LentSized c states) (a : Arm) where
+  abbrev pub part : ℕ → Bool
+  part k = getD (asked c a states) k true
 
-  -- of routes that have passed the ids rise
-  pub rising : Sized c → Within c r → routes-pass ≡ true → Column 128 (c .routeids) (c .nroutes)
-  rising s w e = routes-column (c .base) (c .routeids) (c .dests) (c .nroutes) (s .routeids-128, w .routes .0) (both _ _ e .0)
+  pub refused : (k : ℕ) {x : Bool} → x ≡ part k → not x ≡ true → Judged c a states false
+  refused k e n = (λ counts. one-fails k (asked c a states) (refuted e n) ∙ sym (asked-all c _ (s .columns)), s)
 
-  -- so it is what was gathered of the answers for the parts, once the routes have passed
-  pub judged : Sized c → counted (c .nroutes) (c .nprotected) (c .nrows) ≡ true → routes-pass ≡ true → {b w a g x : Bool}
-      → b ≡ basicsOk (c .ground) (c .fault) (c .base)
-      → w ≡ rowsPart (c .routeids) (c .nroutes) (c .faultids) (c .responses) (c .latching) (c .nrows)
-      → a ≡ argsPart (c .argcounts) (c .nrows) (c .args)
-      → g ≡ runPart (r .arm .armed) (r .arm .ticks) (c .latching) (c .nrows) (r .states)
-      → x ≡ (b && (w && (a && g)))
-      → x ≡ keepsRules c r
-  judged s e f p k m n i = i ∙ rw (p, k, m, n) (rw f at (parts s e))
+  pub passed : (k : ℕ) {x : Bool} → x ≡ part k → not x ≡ false → part k ≡ true
+  passed k e n = held e n
+
+  pub judged : Each (λ p. p ≡ true) (take 8 (asked c a states)) → {x : Bool} → x ≡ part 8 → Judged c a states x
+  judged h e = (λ counts. e ∙ last-decides (take 8 (asked c a states)) (part 8) h ∙ sym (asked-all c _ (s .columns)), s)
+
+  -- what a part that has passed shows for those behind it
+  pub routes-rise : c .numbers .nroutes ≤ 128 → part 3 ≡ true → Column 128 (c .routeids) (c .numbers .nroutes)
+  routes-rise l e =
+      let n = c .numbers in
+      let t = s .columns .routeids-128 in
+      routes-column (n .base) (c .routeids) (c .dests) (n .nroutes) (omega arith) (both (routesKept (n .base) (listed (routeAt (c .routeids) (c .dests)) 0 (n .nroutes))) _ e .0)
+
+  pub zero-behind : part 6 ≡ true → clear (drop (c .numbers .nrows) states) ≡ true
+  zero-behind e =
+      let m = c .numbers .nrows in both (clear (drop m (c .argcounts))) _ (both (clear (drop m (c .latching))) _ e .1) .1

@@ -1,8 +1,13 @@
-// The judge of a whole state, which every public step asks first: each table with what it does not use, then all of them.
+// The judge of a whole state, which every public step asks first: each part with what it does not use, and no part behind one that
+// fails.
 use arraycheck::zero_bytes;
+use arraycheck::zero_three;
+use arraycheck::zero_two;
 use arraycheck::zero_words;
 use state::rules;
+use state::types::Arm;
 use state::types::Config;
+use state::types::Numbers;
 use state::types::Run;
 use tablecheck::args_keep;
 use tablecheck::protected_keep;
@@ -11,16 +16,15 @@ use tablecheck::rows_keep;
 use tablecheck::states_keep;
 use valuecheck::all;
 use valuecheck::arm_ok;
-use valuecheck::both;
 use valuecheck::counts_ok;
 ghost use mathlib.Core.Path.{_≡_};
-ghost use Prim.Native.Nat.{_*_, _≤_};
+ghost use Prim.Native.Nat.{_≤_};
 ghost use lib.ListN.{length};
-ghost use Rattle.state.specs.Lookup.{Column};
+ghost use Rattle.state.specs.declared.types.Counts.{Counts};
+ghost use Rattle.state.specs.Sized.{LentSized};
+ghost use Rattle.state.specs.Tables.{configFrom};
 ghost use Rattle.state.specs.Test.{keepsRules};
-ghost use Rattle.tablecheck.specs.Parts.{routesPart, rowsPart, argsPart, runPart};
-
-// ---- each table with what it does not use
+ghost use Rattle.tablecheck.specs.Parts.{routesPart};
 
 // The routes, and the protected ids once the routes are known to rise.
 fn routes_judged<'a>(
@@ -31,7 +35,7 @@ fn routes_judged<'a>(
     protected: &'a [u16],
     m: usize,
 ) -> bool
-    requires { ⌜ (length (now ids) ≡ 128) × (n ≤ length (now ids)) × (n ≤ length (now dests)) × (m ≤ length (now protected)) ⌝ }
+    requires { ⌜ (length (now ids) ≡ 128) × (n ≤ length (now ids)) × (n ≤ length (now dests)) × (m ≤ length (now protected)) × (base ≤ 65528) ⌝ }
     ensures { λ r. ⌜ r ≡ routesPart base (now (ids .entry)) (now (dests .entry)) n (now (protected .entry)) m ⌝ }
 {
     if !routes_keep(base, ids, dests, n) {
@@ -45,77 +49,83 @@ fn routes_judged<'a>(
     )
 }
 
-// The fault rows, their arguments aside, behind routes that rise.
-fn rows_judged<'a>(
-    ids: &'a [u16],
-    n: usize,
+// The state of lent columns keeps its rules, whatever its counters; the lengths that were asked are handed back. Slices, since a
+// caller that lends an array as one learns its length.
+// internal: for the steps, which lend the columns of their state.
+pub fn lent_keeps<'a>(
+    numbers: Numbers,
+    routeids: &'a [u16],
+    dests: &'a [u8],
+    protected: &'a [u16],
     faultids: &'a [u16],
     responses: &'a [u16],
     latching: &'a [u8],
-    m: usize,
+    argcounts: &'a [u8],
+    args: &'a [u8],
+    arm: Arm,
+    states: &'a [u8],
 ) -> bool
-    requires { ⌜ Column 128 (now ids) n × (m ≤ length (now faultids)) × (m ≤ length (now responses)) × (m ≤ length (now latching)) ⌝ }
-    ensures { λ r. ⌜ r ≡ rowsPart (now (ids .entry)) n (now (faultids .entry)) (now (responses .entry)) (now (latching .entry)) m ⌝ }
+    requires { ⌜ LentSized (configFrom numbers (now routeids) (now dests) (now protected) (now faultids) (now responses) (now latching) (now argcounts) (now args)) (now states) ⌝ }
+    ensures keeps { λ r. ⌜ ((counts : Counts) → r ≡ keepsRules (configFrom numbers (now (routeids .entry)) (now (dests .entry)) (now (protected .entry)) (now (faultids .entry)) (now (responses .entry)) (now (latching .entry)) (now (argcounts .entry)) (now (args .entry))) (record { arm = arm; counts = counts; states = now (states .entry) })) ⌝ }
+    ensures sized { λ _. ⌜ LentSized (configFrom numbers (now (routeids .entry)) (now (dests .entry)) (now (protected .entry)) (now (faultids .entry)) (now (responses .entry)) (now (latching .entry)) (now (argcounts .entry)) (now (args .entry))) (now (states .entry)) ⌝ }
 {
-    let rows = rows_keep(ids, n, faultids, responses, latching, m);
-    all(
-        rows,
-        zero_words(faultids, m),
-        zero_words(responses, m),
-        zero_bytes(latching, m),
-    )
-}
-
-// The arguments of n fault rows.
-fn args_judged<'a>(counts: &'a [u8], n: usize, args: &'a [u8]) -> bool
-    requires { ⌜ (n ≤ length (now counts)) × (16 * n ≤ length (now args)) ⌝ }
-    ensures { λ r. ⌜ r ≡ argsPart (now (counts .entry)) n (now (args .entry)) ⌝ }
-{
-    both(zero_bytes(counts, n), args_keep(counts, n, args))
-}
-
-// The arm record and the fault states.
-fn run_judged<'a>(armed: bool, ticks: u16, latching: &'a [u8], n: usize, states: &'a [u8]) -> bool
-    requires { ⌜ (n ≤ length (now latching)) × (n ≤ length (now states)) ⌝ }
-    ensures { λ r. ⌜ r ≡ runPart armed ticks (now (latching .entry)) n (now (states .entry)) ⌝ }
-{
-    both(arm_ok(armed, ticks), states_keep(latching, n, states))
+    if !counts_ok(numbers.nroutes, numbers.nprotected, numbers.nrows) {
+        return false;
+    }
+    if !arm_ok(arm.armed, arm.ticks) {
+        return false;
+    }
+    if !rules::basics_ok(numbers.ground, numbers.fault, numbers.base) {
+        return false;
+    }
+    if !routes_judged(
+        numbers.base,
+        routeids,
+        dests,
+        numbers.nroutes,
+        protected,
+        numbers.nprotected,
+    ) {
+        return false;
+    }
+    if !rows_keep(
+        routeids,
+        numbers.nroutes,
+        faultids,
+        responses,
+        latching,
+        numbers.nrows,
+    ) {
+        return false;
+    }
+    if !zero_two(faultids, responses, numbers.nrows) {
+        return false;
+    }
+    if !zero_three(latching, argcounts, states, numbers.nrows) {
+        return false;
+    }
+    if !args_keep(argcounts, numbers.nrows, args) {
+        return false;
+    }
+    states_keep(latching, numbers.nrows, states)
 }
 
 // The state keeps its rules; document 01, "A state breaks its rules where ..", says when not.
 pub fn keeps_rules(config: Config, run: Run) -> bool
     ensures { λ r. ⌜ r ≡ keepsRules config run ⌝ }
 {
-    if !counts_ok(config.nroutes, config.nprotected, config.nrows) {
-        return false;
-    }
-    let basics = rules::basics_ok(config.ground, config.fault, config.base);
-    let routes = routes_judged(
-        config.base,
+    let arm = run.arm;
+    lent_keeps(
+        config.numbers,
         &config.routeids,
         &config.dests,
-        config.nroutes,
         &config.protected,
-        config.nprotected,
-    );
-    if !routes {
-        return false;
-    }
-    let rows = rows_judged(
-        &config.routeids,
-        config.nroutes,
         &config.faultids,
         &config.responses,
         &config.latching,
-        config.nrows,
-    );
-    let args = args_judged(&config.argcounts, config.nrows, &config.args);
-    let going = run_judged(
-        run.arm.armed,
-        run.arm.ticks,
-        &config.latching,
-        config.nrows,
+        &config.argcounts,
+        &config.args,
+        arm,
         &run.states,
-    );
-    all(basics, rows, args, going)
+    )
 }

@@ -166,7 +166,7 @@ fn all_three(config: Config, run: Run) {
 fn broken(l: Loaded) {
     let run = l.run;
     let mut c = l.config;
-    c.nroutes = 129;
+    c.numbers.nroutes = 129;
     io::write_all(1, b"129 routes\n");
     all_three(c, run);
     c = l.config;

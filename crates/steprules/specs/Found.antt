@@ -28,30 +28,42 @@ each-at P d (x ∷ xs) h (suc i) l = each-at P d xs (h .1) i (omega arith)
 
 module _ {c : Config} {run : Run} (k : Keeps c run) (s : Sized c) where
   -- the arrays as they are lent
-  pub lend : Lent (c .protected) (c .nprotected) (c .faultids) (c .nrows) (c .routeids) (c .dests) (c .nroutes)
+  pub lend : Lent (c .numbers) (c .routeids) (c .dests) (c .protected) (c .faultids)
   lend =
       record {
-        protected-ids = protected-column k s;
-        fault-ids = fault-column k s;
         route-ids = route-column k s;
         dests-long = s .dests-128;
+        protected-ids = protected-column k s;
+        fault-ids = fault-column k s;
       }
 
   abbrev rows : List FaultRow
   rows = tablesOf c .rows
 
-  pub ids-are : map faultId rows ≡ take (c .nrows) (c .faultids)
+  pub ids-are : map faultId rows ≡ take (c .numbers .nrows) (c .faultids)
   ids-are = let f = fault-column k s in fault-ids-are c (omega (arith, f .long, f .within))
 
+  -- the row at a place in use, and its response, which is routed
+  module _ (place : ℕ) (h : place < c .numbers .nrows) where
+    row-here : getD rows place noRow ≡ rowAt (c .faultids) (c .responses) (c .latching) (c .argcounts) (c .args) place
+    row-here = listed-at (rowAt (c .faultids) (c .responses) (c .latching) (c .argcounts) (c .args)) noRow (c .numbers .nrows) place h
+
+    pub responds : member (getD (c .responses) place 0) (take (c .numbers .nroutes) (c .routeids)) ≡ true
+    responds =
+        let l : place < length rows = omega (arith, rows-count c) in
+        let ok = each-at (RowOk (routed (tablesOf c))) noRow rows (k .rules .rows-ok) place l in
+        let r = route-column k s in
+        rw (row-here, routed-is c (omega (arith, r .long, r .within))) at (member-kept (ok .response-routed))
+
   -- the fault id f was found at a place, or not
-  module _ (f place : ℕ) (e : place ≡ placeIn f (take (c .nrows) (c .faultids))) where
-    pub unknown : c .nrows ≤ place → member f (map faultId rows) ≡ false
+  module _ (f place : ℕ) (e : place ≡ placeIn f (take (c .numbers .nrows) (c .faultids))) where
+    pub unknown : c .numbers .nrows ≤ place → member f (map faultId rows) ≡ false
     unknown h = rw ids-are (no-member (fault-column k s) f place e h)
 
     place-is : placeIn f (map faultId rows) ≡ place
     place-is = rw ids-are (sym e)
 
-    module _ (h : place < c .nrows) where
+    module _ (h : place < c .numbers .nrows) where
       pub known : member f (map faultId rows) ≡ true
       known = rw ids-are (is-member (fault-column k s) f place e h)
 
@@ -59,7 +71,7 @@ module _ {c : Config} {run : Run} (k : Keeps c run) (s : Sized c) where
       within-rows = omega (arith, place-is, rows-count c)
 
       here : getD rows place noRow ≡ rowAt (c .faultids) (c .responses) (c .latching) (c .argcounts) (c .args) place
-      here = listed-at (rowAt (c .faultids) (c .responses) (c .latching) (c .argcounts) (c .args)) noRow (c .nrows) place h
+      here = row-here place h
 
       pub row-is : rowFor f rows ≡ rowAt (c .faultids) (c .responses) (c .latching) (c .argcounts) (c .args) place
       row-is = row-at f rows ∙ rw place-is here
@@ -75,12 +87,4 @@ module _ {c : Config} {run : Run} (k : Keeps c run) (s : Sized c) where
 
       -- its argument bytes lie within the array
       pub args-within : (place < 32) × (place * 16 + getD (c .argcounts) place 0 ≤ 512)
-      args-within = omega (arith, fault-column k s .within, few-counted (c .nrows) place (c .argcounts) (c .args) (k .unused .args-clear) h)
-
-      -- its response is routed
-      pub responds : member (getD (c .responses) place 0) (take (c .nroutes) (c .routeids)) ≡ true
-      responds =
-          let l : place < length rows = omega (arith, rows-count c) in
-          let ok = each-at (RowOk (routed (tablesOf c))) noRow rows (k .rules .rows-ok) place l in
-          let r = route-column k s in
-          rw (here, routed-is c (omega (arith, r .long, r .within))) at (member-kept (ok .response-routed))
+      args-within = omega (arith, fault-column k s .within, few-counted (c .numbers .nrows) place (c .argcounts) (c .args) (k .unused .args-clear) h)

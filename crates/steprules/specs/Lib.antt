@@ -9,3 +9,8 @@ pub mod Demand1
 pub mod RulesKept
 pub mod Demand2
 pub mod Excluded
+pub mod Moved
+pub mod MovedLaws
+pub mod MovedOn
+pub mod FaultMovedLaws
+pub mod Lent

@@ -6,11 +6,11 @@ use mathlib.Core.List.{List, [], _∷_, map}
 use Prim.Native.Nat.{ℕ, _-_, _<_, _≤_}
 use native.Mathlib.Omega.{arith}
 use lib.Dec.{eqb}
-use lib.ListN.{length, getD, set}
+use lib.ListN.{length, getD, set, length-map}
 use borrow.Author.Tests.{eq-eqb, ne-eqb}
 use Rattle.state.specs.Tables.{FaultRow, faultId}
 use Rattle.state.specs.Lookup.{placeIn}
-use Rattle.faultstates.specs.FaultStates.{fault, nextState, actOn, clearAll}
+use Rattle.faultstates.specs.FaultStates.{clear, fault, nextState, actOn, clearAll}
 use Rattle.answers.specs.Own.{onRow, eventOf, faultArg}
 use Rattle.steprules.specs.Step.{statesAfter}
 use Rattle.answers.specs.OwnLaws.{row-range}
@@ -44,6 +44,27 @@ states-on rows n k args ss = go (onRow k) refl
     go : (b : Bool) → onRow k ≡ b → statesOn (map faultId rows) n k args ss ≡ statesAfter rows n k args ss
     go true r = rw (r, by-rows (eventOf k) (faultArg args) rows ss (λ e. omega (arith, row-range k r)))
     go false r = rw r
+
+-- ---- as many states as there were
+
+act-long : (e f : ℕ) (ids ss : List ℕ) → length (actById e f ids ss) ≡ length ss
+act-long e f [] ss = refl
+act-long e f (x ∷ ids) [] = refl
+act-long e f (x ∷ ids) (s ∷ ss) = go (act-long e f ids ss) (eqb f x) refl
+  where
+    go : length (actById e f ids ss) ≡ length ss → (b : Bool) → eqb f x ≡ b → length (actById e f (x ∷ ids) (s ∷ ss)) ≡ length (s ∷ ss)
+    go ih true q = simp q
+    go ih false q = simp (q, ih)
+
+pub states-long : (ids : List ℕ) (n k : ℕ) (args ss : List ℕ) → length (statesOn ids n k args ss) ≡ length ss
+unfolding statesOn
+states-long ids n k args ss = go (eqb n 12) (onRow k) (eqb k 7)
+  where
+    go : (a b c : Bool) → length (cond a (cond b (actById (eventOf k) (faultArg args) ids ss) (cond c (clearAll ss) ss)) ss) ≡ length ss
+    go false b c = refl
+    go true true c = act-long (eventOf k) (faultArg args) ids ss
+    go true false true = length-map ss (λ (s : ℕ). nextState s clear)
+    go true false false = refl
 
 -- ---- each way of the code
 

@@ -1,24 +1,112 @@
-// The fault step. `inner_fault` is the step of a state that keeps its rules.
+// The fault step on any state. `inner_fault` is the step of a state that keeps its rules.
 pub use faultstep::inner_fault;
+use state::types::Arm;
 use state::types::Config;
+use state::types::Counts;
+use state::types::Numbers;
 use state::types::Run;
 use steprules::types;
+use steprules::types::Left;
 use steprules::types::Stepped;
 ghost use mathlib.Core.Path.{_≡_};
 ghost use lib.ListN.{length};
-ghost use Rattle.state.specs.Tables.{tablesOf};
+ghost use Rattle.state.specs.Tables.{tablesOf, configFrom, runFrom};
 ghost use Rattle.steprules.specs.Step.{faultOutput, faultStepOf};
+ghost use Rattle.steprules.specs.Lent.{FaultLeaves};
 
-// The step of any state, any fault number and any output: 20, 21, then the fault.
+// The step of any state, any fault number and any output: 20, 21, then the fault. Columns and fault states are lent, as to
+// `lent_packet`.
+pub fn lent_fault<'a>(
+    numbers: Numbers,
+    routeids: &'a [u16; 128],
+    dests: &'a [u8; 128],
+    protected: &'a [u16; 32],
+    faultids: &'a [u16; 32],
+    responses: &'a [u16; 32],
+    latching: &'a [u8; 32],
+    argcounts: &'a [u8; 32],
+    args: &'a [u8; 512],
+    arm: Arm,
+    counts: Counts,
+    states: &mut [u8; 32],
+    fault: u16,
+    out: &mut [u8],
+) -> Left
+    ensures { λ r. ⌜ FaultLeaves
+        (configFrom numbers (now (routeids .entry)) (now (dests .entry)) (now (protected .entry)) (now (faultids .entry)) (now (responses .entry)) (now (latching .entry)) (now (argcounts .entry)) (now (args .entry)))
+        (runFrom arm counts (now (states .entry))) fault (now (out .entry)) r (now (states .exit)) (now (out .exit)) ⌝ }
+{
+    if !statecheck::lent_keeps(
+        numbers,
+        routeids,
+        dests,
+        protected,
+        faultids,
+        responses,
+        latching,
+        argcounts,
+        args,
+        arm,
+        states,
+    ) {
+        return types::kept(arm, counts, 20);
+    }
+    if out.len() < 260 {
+        return types::kept(arm, counts, 21);
+    }
+    let answer = inner_fault(
+        numbers,
+        routeids,
+        dests,
+        faultids,
+        responses,
+        latching,
+        argcounts,
+        args,
+        states,
+        fault,
+        out,
+    );
+    Left {
+        arm,
+        counts: counters::after_fault(counts, answer.answer),
+        answer,
+    }
+}
+
+// The same of a configuration and a run by value.
 pub fn step_fault(config: Config, run: Run, fault: u16, out: &mut [u8]) -> Stepped
     ensures step { λ r. ⌜ r ≡ faultStepOf config run fault (length (now (out .entry))) ⌝ }
     ensures output { λ r. ⌜ now (out .exit) ≡ faultOutput (tablesOf config) (r .answer .answer) fault (now (out .entry)) ⌝ }
 {
-    if !statecheck::keeps_rules(config, run) {
-        return types::refused(run, 20);
+    let arm = run.arm;
+    let counts = run.counts;
+    let mut states = run.states;
+    let l = lent_fault(
+        config.numbers,
+        &config.routeids,
+        &config.dests,
+        &config.protected,
+        &config.faultids,
+        &config.responses,
+        &config.latching,
+        &config.argcounts,
+        &config.args,
+        arm,
+        counts,
+        &mut states,
+        fault,
+        out,
+    );
+    let left = l.arm;
+    let counted = l.counts;
+    let answer = l.answer;
+    Stepped {
+        run: Run {
+            arm: left,
+            counts: counted,
+            states,
+        },
+        answer,
     }
-    if out.len() < 260 {
-        return types::refused(run, 21);
-    }
-    inner_fault(config, run, fault, out)
 }

@@ -1,24 +1,112 @@
-// The packet step. `inner_packet` is the step of a state that keeps its rules.
+// The packet step on any state. `inner_packet` is the step of a state that keeps its rules.
 pub use packetstep::inner_packet;
+use state::types::Arm;
 use state::types::Config;
+use state::types::Counts;
+use state::types::Numbers;
 use state::types::Run;
 use steprules::types;
+use steprules::types::Left;
 use steprules::types::Stepped;
 ghost use mathlib.Core.Path.{_≡_};
 ghost use lib.ListN.{length};
-ghost use Rattle.state.specs.Tables.{tablesOf};
+ghost use Rattle.state.specs.Tables.{tablesOf, configFrom, runFrom};
 ghost use Rattle.steprules.specs.Step.{packetOutput, packetStepOf};
+ghost use Rattle.steprules.specs.Lent.{PacketLeaves};
 
-// The step of any state, any packet and any output: 20, 21, then the packet.
+// The step of any state, any packet and any output: 20, 21, then the packet. Columns and fault states are lent, so nothing of the
+// configuration is copied; the fault states change where they stand.
+pub fn lent_packet<'a>(
+    numbers: Numbers,
+    routeids: &'a [u16; 128],
+    dests: &'a [u8; 128],
+    protected: &'a [u16; 32],
+    faultids: &'a [u16; 32],
+    responses: &'a [u16; 32],
+    latching: &'a [u8; 32],
+    argcounts: &'a [u8; 32],
+    args: &'a [u8; 512],
+    arm: Arm,
+    counts: Counts,
+    states: &mut [u8; 32],
+    packet: &[u8],
+    out: &mut [u8],
+) -> Left
+    ensures { λ r. ⌜ PacketLeaves
+        (configFrom numbers (now (routeids .entry)) (now (dests .entry)) (now (protected .entry)) (now (faultids .entry)) (now (responses .entry)) (now (latching .entry)) (now (argcounts .entry)) (now (args .entry)))
+        (runFrom arm counts (now (states .entry))) (now (packet .entry)) (now (out .entry)) r (now (states .exit)) (now (out .exit)) ⌝ }
+{
+    if !statecheck::lent_keeps(
+        numbers,
+        routeids,
+        dests,
+        protected,
+        faultids,
+        responses,
+        latching,
+        argcounts,
+        args,
+        arm,
+        states,
+    ) {
+        return types::kept(arm, counts, 20);
+    }
+    if out.len() < 260 {
+        return types::kept(arm, counts, 21);
+    }
+    let m = inner_packet(
+        numbers,
+        routeids,
+        dests,
+        protected,
+        faultids,
+        arm,
+        states,
+        packet,
+        out,
+    );
+    let left = m.arm;
+    let answer = m.answer;
+    Left {
+        arm: left,
+        counts: counters::after_packet(counts, answer.answer, m.reset),
+        answer,
+    }
+}
+
+// The same of a configuration and a run by value.
 pub fn step_packet(config: Config, run: Run, packet: &[u8], out: &mut [u8]) -> Stepped
     ensures step { λ r. ⌜ r ≡ packetStepOf config run (now (packet .entry)) (length (now (out .entry))) ⌝ }
     ensures output { λ r. ⌜ now (out .exit) ≡ packetOutput (tablesOf config) (r .answer .answer) (now (packet .entry)) (now (out .entry)) ⌝ }
 {
-    if !statecheck::keeps_rules(config, run) {
-        return types::refused(run, 20);
+    let arm = run.arm;
+    let counts = run.counts;
+    let mut states = run.states;
+    let l = lent_packet(
+        config.numbers,
+        &config.routeids,
+        &config.dests,
+        &config.protected,
+        &config.faultids,
+        &config.responses,
+        &config.latching,
+        &config.argcounts,
+        &config.args,
+        arm,
+        counts,
+        &mut states,
+        packet,
+        out,
+    );
+    let left = l.arm;
+    let counted = l.counts;
+    let answer = l.answer;
+    Stepped {
+        run: Run {
+            arm: left,
+            counts: counted,
+            states,
+        },
+        answer,
     }
-    if out.len() < 260 {
-        return types::refused(run, 21);
-    }
-    inner_packet(config, run, packet, out)
 }

@@ -1,32 +1,90 @@
-// The tick step.
+// The tick step on any state.
+use state::types::Arm;
 use state::types::Config;
+use state::types::Counts;
+use state::types::Numbers;
 use state::types::Run;
 use steprules::types;
+use steprules::types::Left;
 use steprules::types::Stepped;
 ghost use mathlib.Core.Path.{_≡_};
-ghost use Rattle.steprules.specs.Step.{tickStep, tickStepOf};
+ghost use Rattle.state.specs.Tables.{configFrom, runFrom};
+ghost use Rattle.steprules.specs.Step.{tickStepOf};
+ghost use Rattle.steprules.specs.Lent.{stepLeft};
 
-// A tick on a run: only the arm record may change.
-pub fn inner_tick(run: Run) -> Stepped
-    ensures { λ r. ⌜ r ≡ tickStep run ⌝ }
+// The step of any state: 20, then the tick, which moves the arm record alone. Columns and fault states are lent.
+pub fn lent_tick<'a>(
+    numbers: Numbers,
+    routeids: &'a [u16; 128],
+    dests: &'a [u8; 128],
+    protected: &'a [u16; 32],
+    faultids: &'a [u16; 32],
+    responses: &'a [u16; 32],
+    latching: &'a [u8; 32],
+    argcounts: &'a [u8; 32],
+    args: &'a [u8; 512],
+    arm: Arm,
+    counts: Counts,
+    states: &'a [u8; 32],
+) -> Left
+    ensures { λ r. ⌜ stepLeft r (now (states .entry))
+        ≡ tickStepOf (configFrom numbers (now (routeids .entry)) (now (dests .entry)) (now (protected .entry)) (now (faultids .entry)) (now (responses .entry)) (now (latching .entry)) (now (argcounts .entry)) (now (args .entry)))
+        (runFrom arm counts (now (states .entry))) ⌝ }
 {
-    let old = run.arm;
-    let ticked = arming::tick_of(old);
-    let next = ticked.arm;
-    let mut left = run;
-    left.arm = next;
-    Stepped {
-        run: left,
+    if !statecheck::lent_keeps(
+        numbers,
+        routeids,
+        dests,
+        protected,
+        faultids,
+        responses,
+        latching,
+        argcounts,
+        args,
+        arm,
+        states,
+    ) {
+        return types::kept(arm, counts, 20);
+    }
+    let ticked = arming::tick_of(arm);
+    let left = ticked.arm;
+    Left {
+        arm: left,
+        counts,
         answer: types::bare(ticked.answer),
     }
 }
 
-// The step of any state: 20, then the tick.
+// The same of a configuration and a run by value.
 pub fn step_tick(config: Config, run: Run) -> Stepped
     ensures { λ r. ⌜ r ≡ tickStepOf config run ⌝ }
 {
-    if !statecheck::keeps_rules(config, run) {
-        return types::refused(run, 20);
+    let arm = run.arm;
+    let counts = run.counts;
+    let states = run.states;
+    let l = lent_tick(
+        config.numbers,
+        &config.routeids,
+        &config.dests,
+        &config.protected,
+        &config.faultids,
+        &config.responses,
+        &config.latching,
+        &config.argcounts,
+        &config.args,
+        arm,
+        counts,
+        &states,
+    );
+    let left = l.arm;
+    let counted = l.counts;
+    let answer = l.answer;
+    Stepped {
+        run: Run {
+            arm: left,
+            counts: counted,
+            states,
+        },
+        answer,
     }
-    inner_tick(run)
 }

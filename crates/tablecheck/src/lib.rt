@@ -1,17 +1,22 @@
-// The tables of a state, each passed over once, and the routes searched besides for protected ids and responses: rows that rise
-// and keep their rule, argument bytes, fault states.
+// The tables of a state: rows that rise and keep their rule, argument bytes, fault states. Each column is passed over by a walk of
+// its own where its test is of its numbers alone, and the routes are searched for protected ids and responses.
+use arraycheck::at_most;
+use arraycheck::dests_ok;
+use arraycheck::none_own;
+use arraycheck::rising;
 use arraycheck::zero_bytes;
-use lookup::is_routed;
+use lookup::holds;
 use state::rules;
+use valuecheck::both;
 use valuecheck::state_ok;
-use valuecheck::wide;
 ghost use mathlib.Core.Path.{_≡_};
+ghost use mathlib.Core.Bool.{true};
 ghost use mathlib.Core.List.{[]};
 ghost use Prim.Native.Nat.{_*_, _≤_};
-ghost use lib.ListN.{length, take};
+ghost use lib.ListN.{length, take, drop};
 ghost use Rattle.state.specs.Tables.{listed, routeAt};
 ghost use Rattle.state.specs.Lookup.{Column};
-ghost use Rattle.state.specs.Test.{argsClear, routesKept, protectedKept, rowsKept, statesOk};
+ghost use Rattle.state.specs.Test.{clear, argsClear, routesKept, protectedKept, rowsKept, statesOk};
 ghost use Rattle.tablecheck.specs.Parts.{bare};
 
 // At most 16 arguments in each of n rows, and zero behind them and behind the last row.
@@ -35,26 +40,15 @@ pub fn args_keep<'a>(counts: &'a [u8], n: usize, args: &'a [u8]) -> bool
 }
 
 // The routes rise and keep their rule.
-// internal: for the judge of a state, which has seen that the counts are within their limits.
+// internal: for the judge of a state, which has seen that own base and the counts are within their limits.
 pub fn routes_keep<'a>(base: u16, ids: &'a [u16], dests: &'a [u8], n: usize) -> bool
-    requires { ⌜ (n ≤ length (now ids)) × (n ≤ length (now dests)) ⌝ }
+    requires { ⌜ (n ≤ length (now ids)) × (n ≤ length (now dests)) × (base ≤ 65528) ⌝ }
     ensures { λ r. ⌜ r ≡ routesKept base (listed (routeAt (now (ids .entry)) (now (dests .entry))) 0 n) ⌝ }
 {
-    let mut low = 0;
-    let mut k = 0;
-    while k < n {
-        let id = ids[k];
-        let x = wide(id);
-        if x < low {
-            return false;
-        }
-        if !rules::route_ok(base, id, dests[k]) {
-            return false;
-        }
-        low = x + 1;
-        k += 1;
-    }
-    true
+    both(
+        rising(ids, n),
+        both(dests_ok(dests, n), none_own(ids, n, base)),
+    )
 }
 
 // The protected ids rise and keep their rule.
@@ -69,19 +63,16 @@ pub fn protected_keep<'a>(
     requires { ⌜ Column 128 (now ids) n × (m ≤ length (now protected)) ⌝ }
     ensures { λ r. ⌜ r ≡ protectedKept base (take n (now (ids .entry))) (take m (now (protected .entry))) ⌝ }
 {
-    let mut low = 0;
+    if !rising(protected, m) {
+        return false;
+    }
     let mut k = 0;
     while k < m {
         let id = protected[k];
-        let p = wide(id);
-        if p < low {
-            return false;
-        }
-        let routed = is_routed(ids, n, id);
+        let routed = holds(ids, n, lookup::ROUTES, id);
         if !rules::protected_ok(base, routed, id) {
             return false;
         }
-        low = p + 1;
         k += 1;
     }
     true
@@ -100,35 +91,33 @@ pub fn rows_keep<'a>(
     requires { ⌜ Column 128 (now ids) n × (m ≤ length (now faultids)) × (m ≤ length (now responses)) × (m ≤ length (now latching)) ⌝ }
     ensures { λ r. ⌜ r ≡ rowsKept (take n (now (ids .entry))) (bare (now (faultids .entry)) (now (responses .entry)) (now (latching .entry)) m) ⌝ }
 {
-    let mut low = 0;
+    if !rising(faultids, m) {
+        return false;
+    }
+    if !at_most(latching, m, 1) {
+        return false;
+    }
     let mut k = 0;
     while k < m {
-        let f = wide(faultids[k]);
-        if f < low {
+        if !holds(ids, n, lookup::ROUTES, responses[k]) {
             return false;
         }
-        let routed = is_routed(ids, n, responses[k]);
-        if !rules::row_ok(routed, latching[k]) {
-            return false;
-        }
-        low = f + 1;
         k += 1;
     }
     true
 }
 
 // A state for each of n rows, and zero behind them.
-// internal: for the judge of a state, which has seen that the counts are within their limits.
+// internal: for the judge of a state, which has seen that the counts are within their limits and that zero stands behind.
 pub fn states_keep<'a>(latching: &'a [u8], n: usize, states: &'a [u8]) -> bool
-    requires { ⌜ (n ≤ length (now latching)) × (n ≤ length (now states)) ⌝ }
+    requires { ⌜ (n ≤ length (now latching)) × (n ≤ length (now states)) × (clear (drop n (now states)) ≡ true) ⌝ }
     ensures { λ r. ⌜ r ≡ statesOk (bare [] [] (now (latching .entry)) n) (now (states .entry)) ⌝ }
 {
+    let mut ok = true;
     let mut k = 0;
     while k < n {
-        if !state_ok(latching[k], states[k]) {
-            return false;
-        }
+        ok = both(state_ok(latching[k], states[k]), ok);
         k += 1;
     }
-    zero_bytes(states, n)
+    ok
 }

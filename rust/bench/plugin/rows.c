@@ -4,8 +4,9 @@
  * The program (rust/bench/src/rows.rs) hands over a mailbox: the bytes of each column, where copies of them can stand, where
  * the records of the recording begin. During a call each load is looked at:
  *
- * - A load is of a row where at that moment all bytes of a column stand around it. Nothing is said beforehand about where the
- *   copies are: the configuration goes by value, and there are as many as the compilers made.
+ * - A load is of a row where at that moment all bytes of a column stand around it: in the configuration that the caller lends,
+ *   or on the stack. A configuration that is lent needs no copy, but a compiler may make one, and nothing is said beforehand about
+ *   where.
  * - What was loaded is followed through the instructions that run. Where a register goes nowhere but into memory by plain moves
  *   until it is overwritten, the load was a copy; the memory is followed too, so that a row put aside and compared later is no
  *   copy. Everything else is a look: compared, added, handed on, dropped unused, or any instruction not known here. So a load

@@ -23,6 +23,10 @@ const USAGE: &str =
     "usage: bench [--write FILE [--instructions FILE]] | --names | --run NAME proved|rust TIMES | --rows table|check";
 
 fn main() -> ExitCode {
+    if let Err(told) = tamezohishu::check_archive() {
+        eprintln!("bench: {told}");
+        return ExitCode::FAILURE;
+    }
     let words: Vec<String> = std::env::args().skip(1).collect();
     let words: Vec<&str> = words.iter().map(String::as_str).collect();
     let (file, counts) = match words[..] {

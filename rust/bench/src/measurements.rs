@@ -28,9 +28,10 @@ pub fn all() -> Vec<Section> {
         },
         Section {
             title: "Public steps",
-            about: "Full tables. Each call judges the whole state first, on both sides. The library takes configuration and run \
-                    by value, 1,234 bytes a call, as its header has it; the ordinary version takes references. `state_check` is \
-                    a step that is refused for its output room, so nearly the judgement of the state alone."
+            about: "Full tables. Each call judges the whole state first, on both sides. The library is lent the tables and the \
+                    fault states and takes the few other numbers by value, as its header has it; the ordinary version takes \
+                    references. `state_check` is a step that is refused for its output room, so nearly the judgement of the \
+                    state alone."
                 .to_string(),
             unit: "call",
             measured: steps(),

@@ -1,5 +1,6 @@
 //! Which rows of the tables the library's machine code loads for an event. `bin/rows` runs this under QEMU with
-//! `plugin/rows.c`, which says how a load of a row is known and how a copy is told from a look.
+//! `plugin/rows.c`, which says how a load of a row is known and how a copy is told from a look. The tables are lent, so there
+//! should be no copy; the stack is watched for one all the same.
 //!
 //! Many events are measured by one call: the library reads a recording record by record, and all that it loads between the
 //! first byte of a record and the first of the next belongs to that event. The judgement of the state comes before them.
@@ -61,8 +62,8 @@ struct Mailbox {
 
 /// The columns, as the plugin numbers them: name, places, where the column stands in the configuration.
 const COLUMNS: [(&str, usize, u64); 3] = [
-    ("routes", 128, 16),
-    ("protected", 32, 408),
+    ("routes", 128, 32),
+    ("protected", 32, 416),
     ("faults", 32, 480),
 ];
 const ROUTES: usize = 0;
@@ -222,12 +223,7 @@ impl Event {
             }
             Event::Packet(id) => [look(ROUTES, id), look(PROTECTED, id), vec![]],
             Event::Spoiled(_) | Event::Tick => Default::default(),
-            // Once for the answer and, where it is done, once more for the row's new state.
-            Event::Own(command, fault) => {
-                let once = look(FAULTS, fault);
-                let times = 1 + usize::from(self.outcome(table) == Outcome::Done);
-                [vec![], look(PROTECTED, command), once.repeat(times)]
-            }
+            Event::Own(command, fault) => [vec![], look(PROTECTED, command), look(FAULTS, fault)],
             Event::Fault(fault) => {
                 let row = table.ids[FAULTS].iter().position(|id| *id == fault);
                 let response = row.map(|row| look(ROUTES, table.response(row)));
@@ -368,6 +364,13 @@ impl Watch {
         }
         (first, by_event)
     }
+
+    /// How many of the loads of the last call were for a copy, or of a copy.
+    fn copies(&self, loads: &[Load]) -> usize {
+        let [caller, end] = self.mailbox.caller;
+        let lent = |load: &&Load| load.looked() && (caller..end).contains(&load.copy);
+        loads.len() - loads.iter().filter(lent).count()
+    }
 }
 
 impl Load {
@@ -421,9 +424,9 @@ fn listed<'a>(loads: impl Iterator<Item = &'a Load>) -> String {
 
 pub fn table() -> ExitCode {
     watched(|watch| {
-        println!("Ids of a table that one event of tz_resume looks at and copies, and the looks in order (0-31 by 8: each load takes");
-        println!("eight rows). Behind them the looks at other tables. Counted are the three columns of ids; of the row that is found");
-        println!("the other fields are read besides.");
+        println!("Ids of a table that one event of tz_lent_resume looks at and copies, and the looks in order (0-31 by 8: each load");
+        println!("takes eight rows). Behind them the looks at other tables. Counted are the three columns of ids; of the row that is");
+        println!("found the other fields are read besides.");
         println!(
             "{:9} {:>3}  {:8} {:>6}  {:>6} {:>6}  looks",
             "table", "ids", "wanted", "answer", "looked", "copied"
@@ -440,8 +443,8 @@ pub fn table() -> ExitCode {
         println!("All three tables full:");
         full(watch);
         println!();
-        println!("Rows that a whole call loads under full tables, looked at + copied, of the caller's configuration and of");
-        println!("each copy in the order they were met. A step judges the whole state first; tz_resume has one packet.");
+        println!("Rows that a whole call loads under full tables, looked at + copied, of the caller's configuration and of each copy");
+        println!("in the order they were met, if there is one. A step judges the whole state first; tz_lent_resume has one packet.");
         calls(watch);
         true
     })
@@ -532,25 +535,25 @@ fn calls(watch: &mut Watch) {
     type Step<'a> = Box<dyn FnMut(&mut [u8]) + 'a>;
     let mut steps: Vec<(&str, Step)> = vec![
         (
-            "tz_step_packet",
+            "tz_lent_packet",
             Box::new(|out| {
                 black_box(state.clone().packet(configuration, &packet, out));
             }),
         ),
         (
-            "tz_step_tick",
+            "tz_lent_tick",
             Box::new(|_| {
                 black_box(state.clone().tick(configuration));
             }),
         ),
         (
-            "tz_step_fault",
+            "tz_lent_fault",
             Box::new(|out| {
                 black_box(state.clone().fault(configuration, fault, out));
             }),
         ),
         (
-            "tz_resume",
+            "tz_lent_resume",
             Box::new(|out| {
                 black_box(
                     state
@@ -589,7 +592,8 @@ fn calls(watch: &mut Watch) {
     }
 }
 
-/// Holds the looks against the definition: column by column in tables of each size, and with all tables full.
+/// Holds the looks against the definition: column by column in tables of each size, and with all tables full. All of them are at
+/// the caller's own tables.
 pub fn check() -> ExitCode {
     watched(|watch| {
         let columns = (0..3).map(|column| {
@@ -630,21 +634,25 @@ fn check_of(
     name: &str,
     tables: impl Iterator<Item = (Table, Vec<Event>)>,
 ) -> bool {
-    let (mut sizes, mut all, mut wrong, mut beyond) = (0, 0, 0, 0);
+    let (mut sizes, mut all, mut wrong, mut beyond, mut copies) = (0, 0, 0, 0, 0);
     for (table, events) in tables {
         sizes += 1;
         all += events.len();
         let (judging, by_event) = watch.measured(&table, &events);
+        copies += watch.copies(&judging);
         if !judged(&table, &judging) {
             wrong += 1;
-            println!(
-                "{} routes, {} protected, {} faults: the judge of the state does not look as defined",
-                table.ids[ROUTES].len(),
-                table.ids[PROTECTED].len(),
-                table.ids[FAULTS].len()
-            );
+            if wrong <= SHOWN {
+                println!(
+                    "{} routes, {} protected, {} faults: the judge of the state does not look as defined",
+                    table.ids[ROUTES].len(),
+                    table.ids[PROTECTED].len(),
+                    table.ids[FAULTS].len()
+                );
+            }
         }
         for (event, loads) in events.iter().zip(by_event) {
+            copies += watch.copies(&loads);
             for (other, named) in event.named(&table).iter().enumerate() {
                 let exact = of(&loads, other, true)
                     .map(|load| (load.row, load.rows))
@@ -663,27 +671,53 @@ fn check_of(
             }
         }
     }
-    if wrong == 0 {
-        println!("ok: {name}: {sizes} tables, each judged, and {all} events");
-    } else {
+    if wrong > 0 {
         println!(
             "NOT as defined: {name}: {sizes} tables, {all} events, {wrong} differences, {beyond} of them with a row that is not named"
         );
     }
-    wrong == 0
+    if copies > 0 {
+        println!(
+            "NOT lent: {name}: {sizes} tables, {all} events, {copies} loads for a copy or of one"
+        );
+    }
+    if wrong == 0 && copies == 0 {
+        println!("ok: {name}: {sizes} tables, each judged, and {all} events, and nothing copied");
+    }
+    wrong == 0 && copies == 0
 }
 
-/// Before the first event the state is judged: of the routes in use each once, and then those that the definition names for
-/// each protected id and for each response. (That places not in use are zero is seen by wide loads and their remainder.)
+/// Before the first event the state is judged. Of each column a walk holds every row in use against the one before it; then each
+/// route and each protected id is read once more, by itself, and each place not in use once, as it must be zero. Of the routes
+/// it looks besides, behind these walks, at the rows that the definition names for each protected id and for each response.
 fn judged(table: &Table, loads: &[Load]) -> bool {
-    let routes = &table.ids[ROUTES];
     let asked = table.ids[PROTECTED].iter().copied();
     let asked = asked.chain((0..table.ids[FAULTS].len()).map(|row| table.response(row)));
-    let named = (0..routes.len() as u8).chain(asked.flat_map(|id| looks(routes, 128, id)));
-    of(loads, ROUTES, true)
-        .filter(|load| usize::from(load.row) < routes.len())
-        .map(|load| (load.row, load.rows))
-        .eq(named.map(|row| (row, 1)))
+    let searched: Vec<u8> = asked
+        .flat_map(|id| looks(&table.ids[ROUTES], 128, id))
+        .collect();
+    (0..3).all(|column| {
+        let (n, places) = (table.ids[column].len(), COLUMNS[column].1);
+        let named = if column == ROUTES { &searched[..] } else { &[] };
+        let by_itself = usize::from(column != FAULTS);
+        let walked = |row: usize| match row {
+            _ if row >= n => 1,
+            _ => by_itself + usize::from(row > 0) + usize::from(row + 1 < n),
+        };
+        let (used, unused): (Vec<&Load>, Vec<&Load>) =
+            of(loads, column, true).partition(|load| usize::from(load.row) < n);
+        let Some(walks) = used.len().checked_sub(named.len()) else {
+            return false;
+        };
+        let (walks, looked) = used.split_at(walks);
+        let mut times = vec![0; places];
+        for load in walks.iter().chain(&unused) {
+            (load.row..load.row + load.rows).for_each(|row| times[usize::from(row)] += 1);
+        }
+        let looked = looked.iter().map(|load| (load.row, load.rows));
+        looked.eq(named.iter().map(|row| (*row, 1)))
+            && times.into_iter().eq((0..places).map(walked))
+    })
 }
 
 /// Differences shown of each table.

@@ -86,6 +86,10 @@ fn run(part: &Part, place: usize, wanted: &Wanted, tally: &mut Tally) -> bool {
 }
 
 fn main() -> ExitCode {
+    if let Err(told) = tamezohishu::check_archive() {
+        eprintln!("differential: {told}");
+        return ExitCode::FAILURE;
+    }
     if std::env::args().any(|word| word == "--help" || word == "-h") {
         println!("{HELP}");
         return ExitCode::SUCCESS;

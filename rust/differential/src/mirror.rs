@@ -67,15 +67,15 @@ pub fn configuration(config: &reading::Config) -> Configuration {
 
 /// Whether two configurations are the same in every place, used or not.
 pub fn same_config(a: &raw::Config, b: &reading::Config) -> bool {
-    a.ground == b.ground
-        && a.fault == b.fault
-        && a.base == b.base
-        && a.nroutes == b.nroutes
+    a.numbers.ground == b.ground
+        && a.numbers.fault == b.fault
+        && a.numbers.base == b.base
+        && a.numbers.nroutes == b.nroutes
         && a.routeids == b.routeids
         && a.dests == b.dests
-        && a.nprotected == b.nprotected
+        && a.numbers.nprotected == b.nprotected
         && a.protected_ids == b.protected
-        && a.nrows == b.nrows
+        && a.numbers.nrows == b.nrows
         && a.faultids == b.faultids
         && a.responses == b.responses
         && a.latching == b.latching

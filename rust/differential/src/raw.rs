@@ -15,16 +15,21 @@ pub struct Built {
 }
 
 #[repr(C)]
-pub struct Config {
+pub struct Numbers {
     pub ground: u16,
     pub fault: u16,
     pub base: u16,
     pub nroutes: usize,
+    pub nprotected: usize,
+    pub nrows: usize,
+}
+
+#[repr(C)]
+pub struct Config {
+    pub numbers: Numbers,
     pub routeids: [u16; 128],
     pub dests: [u8; 128],
-    pub nprotected: usize,
     pub protected_ids: [u16; 32],
-    pub nrows: usize,
     pub faultids: [u16; 32],
     pub responses: [u16; 32],
     pub latching: [u8; 32],

@@ -44,6 +44,9 @@ fn explain(told: &clap::Error) -> Ending {
 }
 
 fn main() -> ExitCode {
+    if let Err(told) = tamezohishu::check_archive() {
+        return ending::failed("ground", &[told.to_string()]).into();
+    }
     let ending = match command().try_get_matches() {
         Ok(wanted) => match wanted.subcommand() {
             Some(("build", wanted)) => {

@@ -1,7 +1,9 @@
 //! Configuration C of document 01 and its session, by the proved library. It prints the lines of the paper:
 //! `bin/cargo run -p tamezohishu --example session`
 
-use tamezohishu::{Configuration, LoadError, ROOM};
+use std::error::Error;
+use std::process::ExitCode;
+use tamezohishu::{check_archive, Configuration, ROOM};
 use Event::{Fault, Packet, Tick};
 
 enum Event {
@@ -22,7 +24,18 @@ const G: Event = Packet(b"\x18\x01\xC0\x00\x00\x03\x00\xCE\x00\x14");
 const ARM: Event = Packet(b"\x18\x01\xC0\x00\x00\x04\x00\xBB\x00\x64\x02");
 const PAD: Event = Packet(b"\x18\x01\xC0\x00\x00\x05\x01\xD2\x00\x0A\x05\x00");
 
-fn main() -> Result<(), LoadError> {
+fn main() -> ExitCode {
+    match run() {
+        Ok(()) => ExitCode::SUCCESS,
+        Err(told) => {
+            eprintln!("session: {told}");
+            ExitCode::FAILURE
+        }
+    }
+}
+
+fn run() -> Result<(), Box<dyn Error>> {
+    check_archive()?;
     let session = [
         G,
         ARM,

@@ -1,7 +1,7 @@
 //! A state and a configuration as bytes, to keep them between two runs of a program.
 //!
-//! The fields stand in the order of the C header with nothing between them; numbers are little-endian, the three table counts
-//! take eight bytes each.
+//! The fields stand table by table, each count before its table, with nothing between them; numbers are little-endian, the
+//! three table counts take eight bytes each. This order is the file's own: the structs of the C header may move, it does not.
 //!
 //! State, 49 bytes: armed (1), ticks (2), the counters A, R, D, P, U, I, F (2 each), the states of the 32 fault rows (1 each).
 //!
@@ -90,15 +90,15 @@ impl Fields for ffi::Run {
 
 impl Fields for ffi::Config {
     fn each<V: Visit>(&mut self, v: &mut V) {
-        v.two(&mut self.ground);
-        v.two(&mut self.fault);
-        v.two(&mut self.base);
-        v.count(&mut self.nroutes);
+        v.two(&mut self.numbers.ground);
+        v.two(&mut self.numbers.fault);
+        v.two(&mut self.numbers.base);
+        v.count(&mut self.numbers.nroutes);
         v.twos(&mut self.routeids);
         v.bytes(&mut self.dests);
-        v.count(&mut self.nprotected);
+        v.count(&mut self.numbers.nprotected);
         v.twos(&mut self.protected_ids);
-        v.count(&mut self.nrows);
+        v.count(&mut self.numbers.nrows);
         v.twos(&mut self.faultids);
         v.twos(&mut self.responses);
         v.bytes(&mut self.latching);
@@ -123,15 +123,17 @@ const NO_RUN: ffi::Run = ffi::Run {
 };
 
 const NO_CONFIG: ffi::Config = ffi::Config {
-    ground: 0,
-    fault: 0,
-    base: 0,
-    nroutes: 0,
+    numbers: ffi::Numbers {
+        ground: 0,
+        fault: 0,
+        base: 0,
+        nroutes: 0,
+        nprotected: 0,
+        nrows: 0,
+    },
     routeids: [0; ffi::ROUTES],
     dests: [0; ffi::ROUTES],
-    nprotected: 0,
     protected_ids: [0; ffi::PROTECTED_IDS],
-    nrows: 0,
     faultids: [0; ffi::ROWS],
     responses: [0; ffi::ROWS],
     latching: [0; ffi::ROWS],
@@ -157,7 +159,7 @@ impl State {
 }
 
 impl Configuration {
-    /// The configuration as bytes, in the order of the C header: two-byte numbers and eight-byte counts, little-endian.
+    /// The configuration as bytes, in the order above: two-byte numbers and eight-byte counts, little-endian.
     pub fn to_bytes(&self) -> [u8; CONFIGURATION_BYTES] {
         let mut bytes = [0; CONFIGURATION_BYTES];
         self.clone().0.each(&mut Save(bytes.iter_mut()));

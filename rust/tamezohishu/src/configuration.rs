@@ -58,17 +58,17 @@ impl Configuration {
 
     /// The source number of commands from the ground.
     pub fn ground_source(&self) -> u16 {
-        self.0.ground
+        self.0.numbers.ground
     }
 
     /// The source number of fault responses.
     pub fn fault_source(&self) -> u16 {
-        self.0.fault
+        self.0.numbers.fault
     }
 
     /// The first of the eight own ids.
     pub fn own_base(&self) -> u16 {
-        self.0.base
+        self.0.numbers.base
     }
 
     // A count beyond its table, in a configuration made from damaged bytes, gives the whole table below.
@@ -76,19 +76,19 @@ impl Configuration {
     /// The routes in use, by rising id.
     pub fn routes(&self) -> impl Iterator<Item = Route> + '_ {
         let both = self.0.routeids.iter().zip(&self.0.dests);
-        let used = both.take(self.0.nroutes);
+        let used = both.take(self.0.numbers.nroutes);
         used.map(|(&id, &destination)| Route { id, destination })
     }
 
     /// The protected ids in use, rising.
     pub fn protected_ids(&self) -> &[u16] {
         let ids = &self.0.protected_ids;
-        &ids[..self.0.nprotected.min(ids.len())]
+        &ids[..self.0.numbers.nprotected.min(ids.len())]
     }
 
     /// The fault rows in use, by rising fault id.
     pub fn fault_rows(&self) -> impl Iterator<Item = FaultRow<'_>> + '_ {
-        (0..self.0.nrows.min(ffi::ROWS)).map(|k| {
+        (0..self.0.numbers.nrows.min(ffi::ROWS)).map(|k| {
             let places = &self.0.args[k * ffi::ROW_ARGS..][..ffi::ROW_ARGS];
             FaultRow {
                 fault: self.0.faultids[k],

@@ -1,25 +1,35 @@
 //! The C boundary, as `include/tamezohishu.h` has it. `tests/layout.c` holds the same sizes and places against the header.
 //!
 //! The functions take any bytes and any structs, so a call owes C's own rules only: a pointer to so many bytes, not null even
-//! where there are none. A Rust slice keeps these: its pointer is never null, and nothing else has a `&mut [u8]` meanwhile.
+//! where there are none. A Rust slice keeps these: its pointer is never null, and nothing else has a `&mut [u8]` meanwhile. A
+//! step is lent the columns of a configuration and the fault states of a run, each as a pointer to its array.
 
 pub const ROUTES: usize = 128;
 pub const PROTECTED_IDS: usize = 32;
 pub const ROWS: usize = 32;
 pub const ROW_ARGS: usize = 16;
 
+/// Which structs and signatures these are: `TZ_ABI` of the header.
+pub const ABI: u32 = 1;
+
 #[repr(C)]
 #[derive(Clone, Copy, PartialEq, Eq, Debug)]
-pub struct Config {
+pub struct Numbers {
     pub ground: u16,
     pub fault: u16,
     pub base: u16,
     pub nroutes: usize,
+    pub nprotected: usize,
+    pub nrows: usize,
+}
+
+#[repr(C)]
+#[derive(Clone, Copy, PartialEq, Eq, Debug)]
+pub struct Config {
+    pub numbers: Numbers,
     pub routeids: [u16; ROUTES],
     pub dests: [u8; ROUTES],
-    pub nprotected: usize,
     pub protected_ids: [u16; PROTECTED_IDS],
-    pub nrows: usize,
     pub faultids: [u16; ROWS],
     pub responses: [u16; ROWS],
     pub latching: [u8; ROWS],
@@ -84,15 +94,21 @@ pub struct Answer {
     pub written: u16,
 }
 
+/// What a step leaves beside the fault states that it was lent.
 #[repr(C)]
-pub struct Stepped {
-    pub run: Run,
+pub struct Left {
+    pub armed: u8,
+    pub ticks: u16,
+    pub counts: Counts,
     pub answer: Answer,
 }
 
+/// What a piece of a recording comes to, beside the fault states that it was lent.
 #[repr(C)]
-pub struct Piece {
-    pub run: Run,
+pub struct Reached {
+    pub armed: u8,
+    pub ticks: u16,
+    pub counts: Counts,
     pub stop: u8,
     pub read: usize,
     pub count: usize,
@@ -111,6 +127,7 @@ pub struct Replayed {
 }
 
 extern "C" {
+    pub fn tz_abi() -> u32;
     pub fn tz_judge(packet: *const u8, length: usize) -> Judged;
     pub fn tz_arguments(packet: *const u8, length: usize) -> Part;
     pub fn tz_build(
@@ -124,30 +141,77 @@ extern "C" {
         room: usize,
     ) -> Built;
     pub fn tz_load(image: *const u8, length: usize) -> Loaded;
-    pub fn tz_step_packet(
-        config: Config,
-        run: Run,
+    pub fn tz_lent_packet(
+        numbers: Numbers,
+        routeids: *const [u16; ROUTES],
+        dests: *const [u8; ROUTES],
+        protected_ids: *const [u16; PROTECTED_IDS],
+        faultids: *const [u16; ROWS],
+        responses: *const [u16; ROWS],
+        latching: *const [u8; ROWS],
+        argcounts: *const [u8; ROWS],
+        args: *const [u8; ROWS * ROW_ARGS],
+        armed: u8,
+        ticks: u16,
+        counts: Counts,
+        states: *mut [u8; ROWS],
         packet: *const u8,
         length: usize,
         out: *mut u8,
         room: usize,
-    ) -> Stepped;
-    pub fn tz_step_tick(config: Config, run: Run) -> Stepped;
-    pub fn tz_step_fault(
-        config: Config,
-        run: Run,
+    ) -> Left;
+    pub fn tz_lent_tick(
+        numbers: Numbers,
+        routeids: *const [u16; ROUTES],
+        dests: *const [u8; ROUTES],
+        protected_ids: *const [u16; PROTECTED_IDS],
+        faultids: *const [u16; ROWS],
+        responses: *const [u16; ROWS],
+        latching: *const [u8; ROWS],
+        argcounts: *const [u8; ROWS],
+        args: *const [u8; ROWS * ROW_ARGS],
+        armed: u8,
+        ticks: u16,
+        counts: Counts,
+        states: *const [u8; ROWS],
+    ) -> Left;
+    pub fn tz_lent_fault(
+        numbers: Numbers,
+        routeids: *const [u16; ROUTES],
+        dests: *const [u8; ROUTES],
+        protected_ids: *const [u16; PROTECTED_IDS],
+        faultids: *const [u16; ROWS],
+        responses: *const [u16; ROWS],
+        latching: *const [u8; ROWS],
+        argcounts: *const [u8; ROWS],
+        args: *const [u8; ROWS * ROW_ARGS],
+        armed: u8,
+        ticks: u16,
+        counts: Counts,
+        states: *mut [u8; ROWS],
         fault: u16,
         out: *mut u8,
         room: usize,
-    ) -> Stepped;
-    pub fn tz_resume(
-        config: Config,
-        run: Run,
+    ) -> Left;
+    pub fn tz_lent_resume(
+        numbers: Numbers,
+        routeids: *const [u16; ROUTES],
+        dests: *const [u8; ROUTES],
+        protected_ids: *const [u16; PROTECTED_IDS],
+        faultids: *const [u16; ROWS],
+        responses: *const [u16; ROWS],
+        latching: *const [u8; ROWS],
+        argcounts: *const [u8; ROWS],
+        args: *const [u8; ROWS * ROW_ARGS],
+        armed: u8,
+        ticks: u16,
+        counts: Counts,
+        states: *mut [u8; ROWS],
         recording: *const u8,
         length: usize,
         out: *mut u8,
         room: usize,
-    ) -> Piece;
+    ) -> Reached;
     pub fn tz_replay(
         image: *const u8,
         image_length: usize,
@@ -166,13 +230,13 @@ mod tests {
     /// The same numbers stand in `tests/layout.c`, which a C compiler holds against the header.
     #[test]
     fn sizes_and_places() {
+        assert_eq!(size_of::<Numbers>(), 32);
+        assert_eq!(offset_of!(Numbers, nroutes), 8);
+        assert_eq!(offset_of!(Numbers, nrows), 24);
         assert_eq!(size_of::<Config>(), 1184);
-        assert_eq!(offset_of!(Config, nroutes), 8);
-        assert_eq!(offset_of!(Config, routeids), 16);
-        assert_eq!(offset_of!(Config, dests), 272);
-        assert_eq!(offset_of!(Config, nprotected), 400);
-        assert_eq!(offset_of!(Config, protected_ids), 408);
-        assert_eq!(offset_of!(Config, nrows), 472);
+        assert_eq!(offset_of!(Config, routeids), 32);
+        assert_eq!(offset_of!(Config, dests), 288);
+        assert_eq!(offset_of!(Config, protected_ids), 416);
         assert_eq!(offset_of!(Config, faultids), 480);
         assert_eq!(offset_of!(Config, responses), 544);
         assert_eq!(offset_of!(Config, latching), 608);
@@ -193,12 +257,13 @@ mod tests {
         assert_eq!(offset_of!(Loaded, run), 1200);
         assert_eq!(size_of::<Answer>(), 8);
         assert_eq!(offset_of!(Answer, written), 6);
-        assert_eq!(size_of::<Stepped>(), 58);
-        assert_eq!(offset_of!(Stepped, answer), 50);
-        assert_eq!(size_of::<Piece>(), 80);
-        assert_eq!(offset_of!(Piece, stop), 50);
-        assert_eq!(offset_of!(Piece, read), 56);
-        assert_eq!(offset_of!(Piece, wrote), 72);
+        assert_eq!(size_of::<Left>(), 26);
+        assert_eq!(offset_of!(Left, counts), 4);
+        assert_eq!(offset_of!(Left, answer), 18);
+        assert_eq!(size_of::<Reached>(), 48);
+        assert_eq!(offset_of!(Reached, stop), 18);
+        assert_eq!(offset_of!(Reached, read), 24);
+        assert_eq!(offset_of!(Reached, wrote), 40);
         assert_eq!(size_of::<Replayed>(), 64);
         assert_eq!(offset_of!(Replayed, stop), 16);
         assert_eq!(offset_of!(Replayed, wrote), 40);

@@ -5,6 +5,7 @@
 //! (`include/tamezohishu.h`) and adds names, and nothing else: no rule of the path is decided here. So a ground program that
 //! asks "what would the satellite answer" gets the answer of the proved code itself.
 //!
+//! - [`check_archive`] says whether the archive that was linked goes with this crate; a program asks it first.
 //! - [`Configuration::load`] reads a configuration image, and gives the configuration and the [`State`] it starts in.
 //! - [`State::packet`], [`State::tick`] and [`State::fault`] are the steps. Each gives an [`Answer`] of four numbers.
 //! - [`judge`] and [`arguments`] ask about a packet by itself.
@@ -39,6 +40,7 @@
 //! # }
 //! ```
 
+mod archive;
 mod builder;
 mod bytes;
 mod configuration;
@@ -48,6 +50,7 @@ mod packet;
 mod replay;
 mod state;
 
+pub use archive::{check_archive, Mismatch};
 pub use builder::{build, build_into, Fields};
 pub use bytes::{CONFIGURATION_BYTES, STATE_BYTES};
 pub use configuration::{Configuration, FaultRow, LoadError, Route};

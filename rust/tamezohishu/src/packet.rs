@@ -13,16 +13,24 @@ pub struct Judged {
 }
 
 /// Judges a packet by itself, with no configuration and no state.
+#[inline]
 pub fn judge(packet: &[u8]) -> Result<Judged, Refusal> {
     // SAFETY: the pointer is not null and has `len` bytes that nothing writes to meanwhile.
     let judged = unsafe { ffi::tz_judge(packet.as_ptr(), packet.len()) };
-    match judged.answer {
-        0 => Ok(Judged {
-            id: judged.id,
-            count: judged.count,
-        }),
-        refusal => Err(Refusal::from(refusal)),
+    if judged.answer != 0 {
+        return Err(refused(judged.answer));
     }
+    Ok(Judged {
+        id: judged.id,
+        count: judged.count,
+    })
+}
+
+/// Out of the way of a packet that is accepted.
+#[cold]
+#[inline(never)]
+fn refused(answer: u8) -> Refusal {
+    Refusal::from(answer)
 }
 
 /// The argument part of the packet itself, uncopied; for a packet that the judge refuses, the empty part at its start.

@@ -139,26 +139,41 @@ fn part(out: &[u8], wrote: usize) -> &[u8] {
 impl State {
     /// Runs a piece of a recording. [`crate::REPLY_ROOM`] bytes of output for each event are always enough. With less it
     /// stops before the first event that has no room; the state is then as the last answer left it, and the rest of the
-    /// recording, from `read` on, can be handed in with new room. The configuration is handed over and the state judged once
-    /// for the piece, where single steps do both for each event.
+    /// recording, from `read` on, can be handed in with new room. The state is judged once for the piece, where single
+    /// steps judge it for each event.
     pub fn resume<'a>(
         &mut self,
         configuration: &Configuration,
         recording: &[u8],
         out: &'a mut [u8],
     ) -> Piece<'a> {
-        // SAFETY: both pointers are not null and have so many bytes; nothing else has `out`, so they do not overlap.
+        let (c, run) = (&configuration.0, &mut self.0);
+        // SAFETY: each column and the fault states are arrays of the length that is asked for; recording and output are not null
+        // and have so many bytes; nothing else has the fault states or `out`, so they overlap nothing.
         let piece = unsafe {
-            ffi::tz_resume(
-                configuration.0,
-                self.0,
+            ffi::tz_lent_resume(
+                c.numbers,
+                &c.routeids,
+                &c.dests,
+                &c.protected_ids,
+                &c.faultids,
+                &c.responses,
+                &c.latching,
+                &c.argcounts,
+                &c.args,
+                run.armed,
+                run.ticks,
+                run.counts,
+                &mut run.states,
                 recording.as_ptr(),
                 recording.len(),
                 out.as_mut_ptr(),
                 out.len(),
             )
         };
-        self.0 = piece.run;
+        self.0.armed = piece.armed;
+        self.0.ticks = piece.ticks;
+        self.0.counts = piece.counts;
         Piece {
             stop: Stop::from(piece.stop),
             read: piece.read,

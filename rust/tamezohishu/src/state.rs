@@ -77,43 +77,93 @@ impl State {
         packet: &[u8],
         out: &mut [u8],
     ) -> Answer {
-        // SAFETY: both pointers are not null and have so many bytes; nothing else has `out`, so they do not overlap.
-        let stepped = unsafe {
-            ffi::tz_step_packet(
-                configuration.0,
-                self.0,
+        let (c, run) = (&configuration.0, &mut self.0);
+        // SAFETY: each column and the fault states are arrays of the length that is asked for; packet and output are not null and
+        // have so many bytes; nothing else has the fault states or `out`, so they overlap nothing.
+        let left = unsafe {
+            ffi::tz_lent_packet(
+                c.numbers,
+                &c.routeids,
+                &c.dests,
+                &c.protected_ids,
+                &c.faultids,
+                &c.responses,
+                &c.latching,
+                &c.argcounts,
+                &c.args,
+                run.armed,
+                run.ticks,
+                run.counts,
+                &mut run.states,
                 packet.as_ptr(),
                 packet.len(),
                 out.as_mut_ptr(),
                 out.len(),
             )
         };
-        self.take(stepped)
+        self.take(left)
     }
 
     /// The step of a clock tick.
     pub fn tick(&mut self, configuration: &Configuration) -> Answer {
-        // SAFETY: no pointers.
-        let stepped = unsafe { ffi::tz_step_tick(configuration.0, self.0) };
-        self.take(stepped)
+        let (c, run) = (&configuration.0, &self.0);
+        // SAFETY: each column and the fault states are arrays of the length that is asked for.
+        let left = unsafe {
+            ffi::tz_lent_tick(
+                c.numbers,
+                &c.routeids,
+                &c.dests,
+                &c.protected_ids,
+                &c.faultids,
+                &c.responses,
+                &c.latching,
+                &c.argcounts,
+                &c.args,
+                run.armed,
+                run.ticks,
+                run.counts,
+                &run.states,
+            )
+        };
+        self.take(left)
     }
 
     /// The step of a fault number; `out` as in [`State::packet`].
     pub fn fault(&mut self, configuration: &Configuration, fault: u16, out: &mut [u8]) -> Answer {
-        // SAFETY: the pointer is not null and has so many bytes that nothing else has.
-        let stepped = unsafe {
-            ffi::tz_step_fault(configuration.0, self.0, fault, out.as_mut_ptr(), out.len())
+        let (c, run) = (&configuration.0, &mut self.0);
+        // SAFETY: as in `packet`.
+        let left = unsafe {
+            ffi::tz_lent_fault(
+                c.numbers,
+                &c.routeids,
+                &c.dests,
+                &c.protected_ids,
+                &c.faultids,
+                &c.responses,
+                &c.latching,
+                &c.argcounts,
+                &c.args,
+                run.armed,
+                run.ticks,
+                run.counts,
+                &mut run.states,
+                fault,
+                out.as_mut_ptr(),
+                out.len(),
+            )
         };
-        self.take(stepped)
+        self.take(left)
     }
 
-    fn take(&mut self, stepped: ffi::Stepped) -> Answer {
-        self.0 = stepped.run;
+    fn take(&mut self, left: ffi::Left) -> Answer {
+        self.0.armed = left.armed;
+        self.0.ticks = left.ticks;
+        self.0.counts = left.counts;
         Answer {
-            outcome: Outcome::from(stepped.answer.answer),
-            id: stepped.answer.id,
-            destination: stepped.answer.dest,
-            written: stepped.answer.written,
+            outcome: Outcome::from(left.answer.answer),
+            id: left.answer.id,
+            destination: left.answer.dest,
+            written: left.answer.written,
         }
     }
 
@@ -137,7 +187,7 @@ impl State {
         &'a self,
         configuration: &'a Configuration,
     ) -> impl Iterator<Item = FaultState> + 'a {
-        let used = self.0.states.iter().take(configuration.0.nrows);
+        let used = self.0.states.iter().take(configuration.0.numbers.nrows);
         used.map(|&state| FaultState::from(state))
     }
 }

@@ -4,13 +4,13 @@
 #define SIZE(t, n) _Static_assert(sizeof(t) == n, #t)
 #define PLACE(t, f, n) _Static_assert(offsetof(t, f) == n, #t "." #f)
 
+SIZE(tz_numbers, 32);
+PLACE(tz_numbers, nroutes, 8);
+PLACE(tz_numbers, nrows, 24);
 SIZE(tz_config, 1184);
-PLACE(tz_config, nroutes, 8);
-PLACE(tz_config, routeids, 16);
-PLACE(tz_config, dests, 272);
-PLACE(tz_config, nprotected, 400);
-PLACE(tz_config, protected_ids, 408);
-PLACE(tz_config, nrows, 472);
+PLACE(tz_config, routeids, 32);
+PLACE(tz_config, dests, 288);
+PLACE(tz_config, protected_ids, 416);
 PLACE(tz_config, faultids, 480);
 PLACE(tz_config, responses, 544);
 PLACE(tz_config, latching, 608);
@@ -31,12 +31,13 @@ PLACE(tz_loaded, config, 16);
 PLACE(tz_loaded, run, 1200);
 SIZE(tz_answer, 8);
 PLACE(tz_answer, written, 6);
-SIZE(tz_stepped, 58);
-PLACE(tz_stepped, answer, 50);
-SIZE(tz_piece, 80);
-PLACE(tz_piece, stop, 50);
-PLACE(tz_piece, read, 56);
-PLACE(tz_piece, wrote, 72);
+SIZE(tz_left, 26);
+PLACE(tz_left, counts, 4);
+PLACE(tz_left, answer, 18);
+SIZE(tz_reached, 48);
+PLACE(tz_reached, stop, 18);
+PLACE(tz_reached, read, 24);
+PLACE(tz_reached, wrote, 40);
 SIZE(tz_replayed, 64);
 PLACE(tz_replayed, stop, 16);
 PLACE(tz_replayed, wrote, 40);

@@ -2,13 +2,14 @@
 use Prim.Native.Nat.{_-_}
 use mathlib.Core.Path.{refl}
 use native.Mathlib.Omega.{arith}
-use lib.ListN.{length, drop, drop-of-length-le}
-use Rattle.arraycheck.specs.Walks.{Zeroed, item-at, zero-on, zero-ends}
+use lib.ListN.{length, drop}
+use Rattle.state.specs.Test.{clear}
+use Rattle.arraycheck.specs.Walks.{Gathered, unwalked, on, ends, zero-at, zero-past}
 use Rattle.arraycheck.proofs.zero_bytes.Statement.{statement}
 use Rattle.arraycheck.proofs.zero_bytes.Tie as tie
 
 abbrev Inv-loop : tie.InvT-loop
-Inv-loop xs from ok₀ k₀ ok k = Zeroed (drop from xs) (drop k xs) ok
+Inv-loop xs from ok₀ k₀ ok k = Gathered (clear (drop from xs)) (clear (drop k xs)) ok
 
 abbrev μ-loop : tie.MeasureT-loop
 μ-loop xs from ok₀ k₀ ok k = length xs - k
@@ -19,11 +20,10 @@ zero-bytes-spec =
     (tie.spec
     Inv-loop
     μ-loop
-    (λ c. record { rest = refl })
+    (λ c. unwalked)
     (λ c. omega arith)
     (λ c κs. tt)
     (λ c. omega arith)
     (λ c. omega arith)
-    (λ c. let h = c .before .before .before in
-    zero-on (h .loop .inv) (item-at (h .before .before .args .xs .now) (h .loop .k) (omega arith)) (c .both .ensures))
-    (λ c. zero-ends (c .before .loop .inv) (drop-of-length-le (c .before .before .before .args .xs .now) (c .loop-test .left))))
+    (λ c. let h = c .before .before .before in on (h .loop .inv) (zero-at (h .before .before .args .xs .now) (h .loop .k) (omega arith)) refl (c .both .ensures))
+    (λ c. let h = c .before in ends (h .loop .inv) (zero-past (h .before .before .args .xs .now) (h .loop .k) (omega arith))))

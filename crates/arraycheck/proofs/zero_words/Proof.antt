@@ -2,14 +2,15 @@
 use Prim.Native.Nat.{_-_}
 use mathlib.Core.Path.{refl}
 use native.Mathlib.Omega.{arith}
-use lib.ListN.{length, drop, drop-of-length-le}
+use lib.ListN.{length, drop}
 use borrow.Author.Needs.{needs}
-use Rattle.arraycheck.specs.Walks.{Zeroed, item-at, zero-on, zero-ends}
+use Rattle.state.specs.Test.{clear}
+use Rattle.arraycheck.specs.Walks.{Gathered, unwalked, on, ends, zero-at, zero-past}
 use Rattle.arraycheck.proofs.zero_words.Statement.{statement}
 use Rattle.arraycheck.proofs.zero_words.Tie as tie
 
 abbrev Inv-loop : tie.InvT-loop
-Inv-loop xs from ok₀ j₀ ok j = Zeroed (drop from xs) (drop j xs) ok
+Inv-loop xs from ok₀ j₀ ok j = Gathered (clear (drop from xs)) (clear (drop j xs)) ok
 
 abbrev μ-loop : tie.MeasureT-loop
 μ-loop xs from ok₀ j₀ ok j = length xs - j
@@ -20,12 +21,11 @@ zero-words-spec =
     (tie.spec
     Inv-loop
     μ-loop
-    (λ c. record { rest = refl })
+    (λ c. unwalked)
     (λ c. search needs)
     (λ c. omega arith)
     (λ c κs. tt)
     (λ c. omega arith)
     (λ c. omega arith)
-    (λ c. let h = c .before .before .before in
-    zero-on (h .loop .inv) (item-at (h .before .before .args .xs .now) (h .loop .j) (omega arith)) (c .both .ensures))
-    (λ c. zero-ends (c .before .loop .inv) (drop-of-length-le (c .before .before .before .args .xs .now) (c .loop-test .left))))
+    (λ c. let h = c .before .before .before in on (h .loop .inv) (zero-at (h .before .before .args .xs .now) (h .loop .j) (omega arith)) refl (c .both .ensures))
+    (λ c. let h = c .before in ends (h .loop .inv) (zero-past (h .before .before .args .xs .now) (h .loop .j) (omega arith))))

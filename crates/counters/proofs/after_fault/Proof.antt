@@ -1,16 +1,14 @@
--- `after_fault`: D where it was dispatched, and F.
-use Rattle.counters.specs.Counters.{faultCounts}
+-- `after_fault`: F, and D where the response was dispatched.
 use borrow.Author.Needs.{needs}
+use Rattle.counters.specs.CountLaws.{faults-10, faults-other}
 use Rattle.counters.proofs.after_fault.Statement.{statement}
 use Rattle.counters.proofs.after_fault.Tie as tie
 
-returns : tie.Need-returns
-unfolding faultCounts
-returns c = simp (c .before .bump .ensures, c .bump2 .ensures)
-
 pub after-fault-spec : {M : Type 1} → statement M
-after-fault-spec = tie.close
+after-fault-spec =
+    tie.close
     (tie.spec
     (λ c κs. search needs)
+    (λ c. rw (c .before .bump .ensures) (faults-other _ _ (c .if1 .taken)))
     (λ c κs. search needs)
-    returns)
+    (λ c. rw (c .before .before .bump .ensures, c .bump2 .ensures) (faults-10 _ _ (c .before .if1 .left))))

@@ -1,29 +1,27 @@
--- `after_packet`: a reset, or the counters that the answer moves.
-use Rattle.counters.specs.Counters.{packetCounts}
-use borrow.Author.Tests.{eq-eqb, ne-eqb}
-use mathlib.Core.Path.{_∙_}
+-- `after_packet`: each way by the answer.
+use mathlib.Core.Path.{_≡_, refl, _∙_}
+use native.Mathlib.Omega.{arith}
 use borrow.Author.Needs.{needs}
+use Rattle.counters.specs.CountLaws.{counts-10, counts-22, counts-30, counts-invalid, counts-33, counts-high}
 use Rattle.counters.proofs.after_packet.Statement.{statement}
 use Rattle.counters.proofs.after_packet.Tie as tie
-
-returns : tie.Need-returns
-unfolding packetCounts
-returns c = c .after-accepted .ensures ∙ simp (ne-eqb _ _ (c .before .if1 .taken))
-
-returns-2 : tie.Need-returns-2
-unfolding packetCounts
-returns-2 c = c .after-accepted2 .ensures ∙ simp (eq-eqb _ _ (c .before .before .if1 .left), ne-eqb _ _ (c .before .if2 .taken))
-
-returns-3 : tie.Need-returns-3
-unfolding packetCounts
-returns-3 c = simp (eq-eqb _ _ (c .before .if1 .left), eq-eqb _ _ (c .if2 .left))
 
 pub after-packet-spec : {M : Type 1} → statement M
 after-packet-spec =
     tie.close
     (tie.spec
     (λ c κs. search needs)
-    returns
     (λ c κs. search needs)
-    returns-2
-    returns-3)
+    (λ c. rw (c .before .bump .ensures, c .bump2 .ensures) (counts-10 _ _ _ (c .before .before .if1 .taken)))
+    (λ c κs. (c .if2 .taken, c .before .if1 .left))
+    (λ c. c .after-own .ensures)
+    (λ c κs. search needs)
+    (λ c. rw (c .bump3 .ensures) (counts-22 _ _ _ (c .before .before .if2 .left) (c .before .if3 .taken)))
+    (λ c κs. search needs)
+    (λ c κs. search needs)
+    (λ c. rw (c .before .before .bump4 .ensures, c .bump5 .ensures) (counts-30 _ _ _ (c .before .if4 .taken)))
+    (λ c κs. search needs)
+    (λ c. rw (c .before .before .before .bump4 .ensures, c .bump6 .ensures) (counts-invalid _ _ _ (omega arith) (c .before .if5 .taken)))
+    (λ c κs. search needs)
+    (λ c. rw (c .before .before .before .before .bump4 .ensures, c .bump7 .ensures) (counts-33 _ _ _ (c .before .if6 .taken)))
+    (λ c. rw (c .before .before .before .bump4 .ensures) (counts-high _ _ _ (omega arith))))

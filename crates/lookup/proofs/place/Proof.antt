@@ -1,7 +1,6 @@
--- `place`: six hops reach all of the array.
-use mathlib.Core.Path.{refl}
+-- `place`: hops that begin with the column's length reach all of it.
 use native.Mathlib.Omega.{arith}
-use Rattle.lookup.specs.Hopping.{is-place}
+use Rattle.lookup.specs.Hopping.{half-below, is-place}
 use Rattle.lookup.proofs.place.Statement.{statement}
 use Rattle.lookup.proofs.place.Tie as tie
 
@@ -10,4 +9,4 @@ place-spec =
     tie.close
     (tie.spec
     (λ c κs. omega arith)
-    (λ c. let s = c .before .before in is-place (s .pre) (s .args .id) 6 (c .search .ensures 6 refl) (omega arith)))
+    (λ c e h. let s = c .before .before in is-place (s .pre) (s .args .id) e (c .search .ensures e h) (omega (arith, h, half-below e))))

@@ -1,7 +1,8 @@
 -- `form_refusal`: each return is one line of `BadForm`, or the form is right.
+use mathlib.Core.Path.{refl}
 use native.Mathlib.Omega.{arith}
 use Rattle.wire.specs.XorLaws.{zero-first, first-zero}
-use Rattle.packetrules.specs.Outcome.{not-version-0, not-telecommand, not-secondary, not-xor-0}
+use Rattle.packetrules.specs.Outcome.{not-xor-0}
 use Rattle.packetrules.specs.Laws.{form-bad, form-good}
 use borrow.Author.Needs.{needs}
 use Rattle.packetform.proofs.form_refusal.Statement.{statement}
@@ -13,24 +14,20 @@ form-refusal-spec =
     (tie.spec
     (λ c. search needs)
     (λ c κs. search needs)
-    (λ c. form-bad (not-version-0 (omega arith)))
-    (λ c κs. search needs)
-    (λ c. form-bad (not-telecommand (omega arith) (omega arith)))
-    (λ c κs. search needs)
-    (λ c. form-bad (not-secondary (omega arith) (omega arith) (omega arith)))
+    (λ c. form-bad (c .head-refusal .ensures _ refl))
     (λ c. search needs)
     (λ c. search needs)
     (λ c. search needs)
     (λ c κs. search needs)
-    (λ c. let s = c .before .before .before .before .before .before .before .before .before .before .before .args .packet .now in
+    (λ c. let s = c .before .before .before .before .before .before .args .packet .now in
     form-bad
     (not-xor-0 (omega arith) (omega arith) (omega arith)
-    (λ e. c .if4 .taken (zero-first s (omega arith) _ (c .before .all .ensures) e))))
-    (λ c. let s = c .before .before .before .before .before .before .before .before .before .before .before .args .packet .now in
+    (λ e. c .if2 .taken (zero-first s (omega arith) _ (c .before .all .ensures) e))))
+    (λ c. let s = c .before .before .before .before .before .before .args .packet .now in
     form-good
     (record {
       version-0 = omega arith;
       telecommand = omega arith;
       with-secondary = omega arith;
-      xor-0 = first-zero s (omega arith) _ (c .before .all .ensures) (c .if4 .left);
+      xor-0 = first-zero s (omega arith) _ (c .before .all .ensures) (c .if2 .left);
     })))

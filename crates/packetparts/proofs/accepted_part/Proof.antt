@@ -1,6 +1,7 @@
--- `accepted_part`: the part from byte 10, as long as the count, at ten bytes behind the packet's start.
-use mathlib.Core.Path.{_≡_, refl, sym}
-use Prim.Native.Nat.{_+_, _-_}
+-- `accepted_part`: the part from byte 10 up to the pads, at ten bytes behind the packet's start.
+use mathlib.Core.Path.{_≡_, refl, sym, ap, _∙_}
+use Prim.Native.Nat.{ℕ, _-_}
+use lib.ListN.{length, take, drop}
 use Rattle.packetrules.specs.Layout.{argCount}
 use native.Mathlib.Omega.{arith}
 use Rattle.packetrules.specs.Laws.{arguments-accepted}
@@ -12,12 +13,14 @@ pub accepted-part-spec : {M : Type 1} → statement M
 accepted-part-spec =
     tie.close
     (tie.spec
+    (λ c. search needs)
     (λ c κs. search needs)
     (λ c. search needs)
     (λ c. search needs)
     (λ c. search needs)
     (λ c. search needs)
     (λ c. search needs)
-    (λ c. let s = c .before .before .before .args .packet .now in
-    let e : 10 + c .before .arg-count .result - 10 ≡ argCount s = omega arith in
-    (rw e (sym (arguments-accepted s (c .before .before .before .pre))), (refl, omega arith))))
+    (λ c. let start = c .before .before .before .before in
+    let s = start .args .packet .now in
+    let e : length s - c .before .pads .result - 10 ≡ argCount s = omega arith in
+    (ap (λ (k : ℕ). take k (drop 10 s)) e ∙ sym (arguments-accepted s (start .pre)), (refl, omega arith))))

@@ -1,62 +1,69 @@
--- `inner_packet`: a rejected packet, or the parts of an accepted packet's step, each by its own function.
-use mathlib.Core.Path.{_≡_, sym, _∙_}
+-- `inner_packet`: each way of a packet, by its law.
+use mathlib.Core.Path.{_≡_, refl, sym, _∙_}
+use mathlib.Core.Bool.{Bool}
+use lib.ListN.{take}
 use native.Mathlib.Omega.{arith}
 use borrow.Author.Needs.{needs}
 use Rattle.packetrules.specs.Judge.{refusalOf}
 use Rattle.packetrules.specs.Laws.{accepts}
 use Rattle.packetrules.specs.Parts.{arguments-few}
-use Rattle.state.specs.Tables.{tablesOf}
-use Rattle.state.specs.Sized.{Sized}
-use Rattle.state.specs.Columns.{fault-column, states-small}
-use Rattle.state.specs.ArrayLaws.{routed-is}
-use Rattle.steprules.specs.Found.{lend, ids-are}
-use Rattle.steprules.specs.StepLaws.{accepted-is, packet-rejected, packet-accepted, rejected-unsent, packet-sent}
+use Rattle.answers.specs.Answers.{blocked}
+use Rattle.answers.specs.OwnLaws.{own-below, own-above}
+use Rattle.steprules.specs.MovedLaws.{moves-rejected, moves-30, moves-own, moves-33, moves-10}
 use Rattle.packetstep.proofs.inner_packet.Statement.{statement}
 use Rattle.packetstep.proofs.inner_packet.Tie as tie
 
--- the arrays as the types say: said where the function starts, since a search from a later place meets too many records
-sized : (c : tie.Start) → Sized (c .args .t1)
-sized c =
-    record {
-      routeids-128 = search needs;
-      dests-128 = search needs;
-      protected-32 = search needs;
-      faultids-32 = search needs;
-      responses-32 = search needs;
-      latching-32 = search needs;
-      argcounts-32 = search needs;
-      args-512 = search needs;
-    }
+-- accepted by the judge
+accepted : (c : tie.Else1) → refusalOf (c .before .before .before .before .args .packet .now) ≡ 0
+accepted c = sym (c .before .refusal .ensures) ∙ c .if1 .left
+
+-- asked whether it is protected
+module _ (c : tie.After-is-blocked) where
+  abbrev judged : tie.Else1
+  judged = c .before .before .before
+
+  abbrev s : tie.Start
+  s = judged .before .before .before .before
+
+  abbrev shut : Bool → Type 0
+  shut b = blocked (take (s .args .numbers .nprotected) (s .args .protected .now)) (s .args .arm .armed) (c .before .before .command-id .result) ≡ b
 
 returns : tie.Need-returns
-returns c =
-    let n = c .before .before .refusal .ensures in
-    (c .rejected .ensures ∙ packet-rejected _ _ _ _ (n, c .before .if1 .taken), rejected-unsent _ _ _ _ _ _ (c .rejected .ensures) n)
+returns c responses latching argcounts args =
+    let s = c .before .before .before .before .before in
+    rw (c .rejected .ensures) (moves-rejected _ (s .pre .0) _ _ _ _ _ (c .before .before .refusal .ensures, c .before .if1 .taken))
 
 returns-2 : tie.Need-returns-2
-returns-2 c =
-    let decided = c .before .before .before .before .before .before .before .before .before .before in
-    let part = decided .before .before .before .before .before .before .before in
-    let judged = part .before .before .before in
-    let start = judged .before .before .before in
-    let g = start .args in
-    let l = lend (start .pre .0) (sized start) in
-    let i = part .before .command-id .ensures in
-    let a = part .accepted-part .ensures .0 in
-    let z : refusalOf (g .packet .now) ≡ 0 = sym (judged .refusal .ensures) ∙ part .before .before .if1 .left in
-    let s = c .before .before .before .before .send .ensures in
-    let r =
-    accepted-is (tablesOf (g .t1)) (g .run) _ (part .accepted-part .result .now)
-    (routed-is (g .t1) (omega (arith, l .route-ids .long, l .route-ids .within)))
-    (ids-are (start .pre .0) (sized start))
-    (decided .before .before .before .before .before .before .number .ensures)
-    (decided .decide .ensures .0)
-    (c .before .after-packet .ensures)
-    (c .after-packet2 .ensures)
-    (c .before .before .before .before .before .before .states-after .ensures)
-    (decided .decide .ensures .1)
-    (s .0) in
-    (r ∙ packet-accepted _ _ _ _ _ z i a, s .1 ∙ packet-sent _ _ _ _ _ _ i a)
+returns-2 c responses latching argcounts args =
+    let b = c .before .before in
+    rw (c .quiet .ensures) (moves-30 _ (s b .pre .0) _ _ _ _ (accepted (judged b)) (b .before .before .command-id .ensures) (b .before .accepted-part .ensures .0) refl
+    (sym (b .is-blocked .ensures) ∙ c .before .if2 .taken))
+
+returns-3 : tie.Need-returns-3
+returns-3 c responses latching argcounts args =
+    let n = c .before .before in
+    let o = n .before .before in
+    let b = o .before .before in
+    moves-own _ (s b .pre .0) _ _ _ _ (accepted (judged b)) (b .before .before .command-id .ensures) (b .before .accepted-part .ensures .0) (n .number .ensures)
+    (sym (b .is-blocked .ensures) ∙ o .before .if2 .left) (own-below _ _ (n .number .ensures) (sym (o .is-own .ensures) ∙ n .before .if3 .taken)) (c .own-step .ensures)
+
+returns-4 : tie.Need-returns-4
+returns-4 c responses latching argcounts args =
+    let r = c .before .before .before in
+    let o = r .before .before .before in
+    let b = o .before .before in
+    rw (c .quiet2 .ensures) (moves-33 _ (s b .pre .0) _ _ _ _ (accepted (judged b)) (b .before .before .command-id .ensures) (b .before .accepted-part .ensures .0) refl
+    (sym (b .is-blocked .ensures) ∙ o .before .if2 .left) (own-above _ _ (sym (o .is-own .ensures) ∙ r .before .before .if3 .left)) (r .place .ensures 8 refl .0) (c .before .if4 .taken))
+
+returns-5 : tie.Need-returns-5
+returns-5 c responses latching argcounts args =
+    let a = c .before in
+    let w = a .before .before .before in
+    let r = w .before .before .before .before in
+    let o = r .before .before .before in
+    let b = o .before .before in
+    rw (a .after-packet .ensures) (moves-10 _ (s b .pre .0) _ _ _ _ (accepted (judged b)) (b .before .before .command-id .ensures) (b .before .accepted-part .ensures .0) refl
+    (sym (b .is-blocked .ensures) ∙ o .before .if2 .left) (own-above _ _ (sym (o .is-own .ensures) ∙ r .before .before .if3 .left)) (r .place .ensures 8 refl .0) _ _ (w .before .before .if4 .left) (w .write .ensures))
 
 pub inner-packet-spec : {M : Type 1} → statement M
 inner-packet-spec =
@@ -65,14 +72,22 @@ inner-packet-spec =
     (λ c κs. search needs)
     (λ c κs. search needs)
     returns
-    (λ c κs. accepts _ (omega arith))
-    (λ c κs. accepts _ (omega arith))
-    (λ c κs. search needs)
-    (λ c κs. let start = c .before .before .before .before .before .before .before .before .before .before .before .before in lend (start .pre .0) (sized start))
-    (λ c κs. let start = c .before .before .before .before .before .before .before .before .before .before .before .before .before .before .before .before in
-    (fault-column (start .pre .0) (sized start), states-small (tablesOf (start .args .t1) .rows) (start .args .run .states) (start .pre .0 .run-ok .states-ok)))
-    (λ c κs. (search needs, rw (c .before .before .before .before .before .before .before .before .before .before .before .before .accepted-part .ensures .0) (arguments-few _)))
+    (λ c κs. accepts _ (accepted c))
+    (λ c κs. accepts _ (accepted (c .before)))
     (λ c κs. search needs)
     (λ c κs. search needs)
+    returns-2
+    (λ c κs. search needs)
+    (λ c κs. search needs)
+    (λ c κs. search needs)
+    returns-3
+    (λ c κs. search needs)
+    (λ c κs. search needs)
+    returns-4
+    (λ c κs. (search needs, rw (c .before .before .before .before .before .before .before .before .before .accepted-part .ensures .0) (arguments-few _)))
+    (λ c κs. search needs)
+    (λ c. let w = c .before .before .before in
+    let r = w .before .before .before .before in
+    omega (arith, w .before .before .if4 .left, s (r .before .before .before .before .before) .pre .0 .route-ids .within))
     (λ c. search needs)
-    returns-2)
+    returns-5)

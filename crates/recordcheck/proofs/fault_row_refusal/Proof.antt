@@ -1,40 +1,56 @@
--- `fault_row_refusal`: the parts' answers put together.
-use mathlib.Core.Path.{_≡_}
-use mathlib.Core.Bool.{Bool, _&&_}
-use mathlib.Core.List.{List}
-use Prim.Native.Nat.{ℕ}
+-- `fault_row_refusal`: a row of kind 4, and one law for each way out.
+use mathlib.Core.Path.{_≡_, refl, sym, _∙_}
+use mathlib.Core.Bool.{true}
+use Prim.Native.Nat.{_≤_}
 use native.Mathlib.Omega.{arith}
-use lib.ListN.{getD, take}
+use lib.ListN.{length}
 use borrow.Author.Needs.{needs}
-use Rattle.state.specs.Rules.{member, floor, startOk, rowOk}
-use Rattle.state.specs.Test.{rowPasses}
-use Rattle.records.specs.Records.{le16}
-use Rattle.records.specs.Checks.{startIn, rowIn, rowRefusal}
+use borrow.Author.Tests.{not-true, not-false}
+use Rattle.records.specs.Checks.{sized}
+use Rattle.records.specs.PartLaws.{fault-row, row-sized, missized, misplaced, judged}
+use Rattle.recordcheck.specs.Floor.{count}
 use Rattle.recordcheck.proofs.fault_row_refusal.Statement.{statement}
 use Rattle.recordcheck.proofs.fault_row_refusal.Tie as tie
 
--- what each part told, of the body's own id and response id
-judged : (b ids faults : List ℕ) (n k : ℕ) {id low response r : ℕ} {routed ok : Bool}
-    → id ≡ le16 b 0 → low ≡ floor (take k faults) → response ≡ le16 b 2 → routed ≡ member response (take n ids)
-    → ok ≡ (startOk (getD b 4 0) && rowOk routed (getD b 5 0)) → r ≡ rowRefusal 32 low k id ok
-    → r ≡ rowRefusal 32 (floor (take k faults)) k (le16 b 0) (startOk (startIn b) && rowPasses (take n ids) (rowIn b))
-judged b ids faults n k i l p q o e = rw (← i, ← l, ← p, ← q, ← o) e
+-- past the first test the size is right
+fits : (c : tie.Else1) → sized 4 (c .before .before .before .args .body .now) ≡ true
+fits c = sym (c .before .is-row-sized .ensures) ∙ not-false _ (c .if1 .left)
+
+seven : (c : tie.Else1) → 7 ≤ length (c .before .before .before .args .body .now)
+seven c = omega (arith, row-sized _ (fits c))
 
 returns : tie.Need-returns
-returns c =
-    let a = c .before .before .before .before .before .before .before .before .before .before .before .args in
-    judged (a .body .now) (a .ids .now) (a .faults .now) (a .n) (a .k) (c .before .before .before .before .before .before .before .before .before .word-at .ensures) (c .before .before .before .before .before .before .before .floor-of .ensures) (c .before .before .before .before .before .word-at2 .ensures) (c .before .before .before .before .is-routed .ensures) (c .before .row-ok .ensures) (c .row-refusal .ensures)
+returns c t base ps h =
+    let s = c .before .before .before in
+    missized _ (fault-row (s .args .body .now) h refl (count (s .pre .1)) refl) (sym (c .before .is-row-sized .ensures) ∙ not-true _ (c .if1 .taken))
+
+returns-2 : tie.Need-returns-2
+returns-2 c t base ps h =
+    let e = c .before .before .before .before in
+    let s = e .before .before .before in
+    misplaced _ (fault-row (s .args .body .now) h (c .before .before .before .word-at .ensures) (count (s .pre .1)) refl)
+    (fits e) (c .before .place-refusal .ensures) (c .if2 .taken)
+
+returns-3 : tie.Need-returns-3
+returns-3 c t base ps h =
+    let p = c .before .before .before .before .before in
+    let e = p .before .before .before .before in
+    let s = e .before .before .before in
+    judged _ (fault-row (s .args .body .now) h (p .before .before .before .word-at .ensures) (count (s .pre .1)) (c .before .before .before .before .word-at2 .ensures))
+    (fits e) (p .before .place-refusal .ensures) (p .if2 .left) (c .before .row-ok .ensures) (c .rule-refusal .ensures)
 
 pub fault-row-refusal-spec : {M : Type 1} → statement M
 fault-row-refusal-spec =
     tie.close
     (tie.spec
-    (λ c κs. omega arith)
+    (λ c κs. tt)
+    returns
+    (λ c κs. omega (arith, seven c))
     (λ c κs. search needs)
-    (λ c κs. omega arith)
-    (λ c κs. c .before .before .before .before .before .before .pre .1)
-    (λ c. omega arith)
-    (λ c. omega arith)
+    returns-2
+    (λ c κs. omega (arith, seven (c .before .before .before .before)))
+    (λ c. omega (arith, seven (c .before .before .before .before .before .before)))
+    (λ c. omega (arith, seven (c .before .before .before .before .before .before .before)))
+    (λ c κs. search needs)
     (λ c κs. tt)
-    (λ c κs. tt)
-    returns)
+    returns-3)

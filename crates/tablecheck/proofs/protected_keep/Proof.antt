@@ -1,20 +1,24 @@
--- `protected_keep`: the protected ids that were passed rise and keep their rule.
+-- `protected_keep`: the protected ids rise, and those that were passed keep their rule.
+use mathlib.Core.Path.{refl, _∙_}
+use mathlib.Core.Bool.{true}
 use Prim.Native.Nat.{_-_}
-use mathlib.Core.Path.{_∙_}
 use native.Mathlib.Omega.{arith}
-use lib.ListN.{getD, take}
+use lib.ListN.{drop, take}
 use borrow.Author.Needs.{needs}
 use Rattle.state.specs.Test.{protectedPasses, protectedKept}
-use Rattle.arraycheck.specs.Walks.{refuted, held, Walked, protected-start, sinks, fails, passes, ends}
+use Rattle.arraycheck.specs.Each.{each}
+use Rattle.arraycheck.specs.Walks.{refuted, held, Gathered, unwalked, ends, refuses, passes, each-past, each-refuses, each-passes}
+use Rattle.tablecheck.specs.Apart.{protected-apart}
 use Rattle.tablecheck.proofs.protected_keep.Statement.{statement}
 use Rattle.tablecheck.proofs.protected_keep.Tie as tie
 
 abbrev Inv-loop : tie.InvT-loop
-Inv-loop base ids n protected m low₀ k₀ low k =
-    let is = take n ids in Walked (λ id. id) (protectedPasses base is) (λ i. getD protected i 0) m (protectedKept base is (take m protected)) low k
+Inv-loop base ids n protected m k₀ k =
+    let is = take n ids in
+    Gathered (protectedKept base is (take m protected)) (each (protectedPasses base is) (drop k (take m protected))) true
 
 abbrev μ-loop : tie.MeasureT-loop
-μ-loop base ids n protected m low₀ k₀ low k = m - k
+μ-loop base ids n protected m k₀ k = m - k
 
 pub protected-keep-spec : {M : Type 1} → statement M
 protected-keep-spec =
@@ -22,18 +26,18 @@ protected-keep-spec =
     (tie.spec
     Inv-loop
     μ-loop
-    (λ c. let a = c .before .before .args in protected-start (a .base) (take (a .n) (a .ids .now)) (a .protected .now) (a .m) (omega arith))
+    (λ c κs. search needs)
+    (λ c. refuses (let a = c .before .before .before .before .args in protected-apart (a .base) (take (a .n) (a .ids .now)) (take (a .m) (a .protected .now))) (refuted (c .before .rising .ensures) (c .if1 .taken)))
+    (λ c. passes (let a = c .before .before .before .before .args in protected-apart (a .base) (take (a .n) (a .ids .now)) (take (a .m) (a .protected .now))) (held (c .before .rising .ensures) (c .if1 .left)) unwalked)
     (λ c. search needs)
     (λ c. omega arith)
-    (λ c κs. tt)
-    (λ c. sinks (c .before .before .before .before .loop .inv) (omega arith))
     (λ c κs. c .before .before .before .before .before .before .before .pre .0)
     (λ c κs. tt)
-    (λ c. fails (c .before .before .before .before .before .before .before .loop .inv) (omega arith)
-    (refuted (c .before .protected-ok .ensures ∙ rw (c .before .before .is-routed .ensures)) (c .if2 .taken)))
+    (λ c. let h = c .before .before .before .before .before in let a = h .before .before .before .before .before .args in let p = protectedPasses (a .base) (take (a .n) (a .ids .now)) in
+    each-refuses p (a .protected .now) (a .m) (h .loop .k) (h .loop .inv) (omega arith) (refuted (c .before .protected-ok .ensures ∙ rw (c .before .before .holds .ensures 8 refl)) (c .if2 .taken)))
     (λ c. omega arith)
     (λ c. omega arith)
-    (λ c. omega arith)
-    (λ c. passes (c .before .before .before .before .before .before .before .loop .inv) (omega arith)
-    (held (c .before .protected-ok .ensures ∙ rw (c .before .before .is-routed .ensures)) (c .if2 .left)))
-    (λ c. ends (c .before .loop .inv) (omega arith)))
+    (λ c. let h = c .before .before .before .before .before in let a = h .before .before .before .before .before .args in let p = protectedPasses (a .base) (take (a .n) (a .ids .now)) in
+    each-passes p (a .protected .now) (a .m) (h .loop .k) (h .loop .inv) (omega arith) (held (c .before .protected-ok .ensures ∙ rw (c .before .before .holds .ensures 8 refl)) (c .if2 .left)))
+    (λ c. let h = c .before in let a = h .before .before .before .before .before .args in let p = protectedPasses (a .base) (take (a .n) (a .ids .now)) in
+    ends (h .loop .inv) (each-past p (a .protected .now) (a .m) (h .loop .k) (omega arith))))

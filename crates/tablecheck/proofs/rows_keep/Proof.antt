@@ -1,23 +1,24 @@
--- `rows_keep`: the rows that were passed rise and keep their rule.
+-- `rows_keep`: the fault ids rise, latching is 0 or 1, and the responses that were passed are routed.
+use mathlib.Core.Path.{refl}
+use mathlib.Core.Bool.{true}
 use Prim.Native.Nat.{_-_}
-use mathlib.Core.Path.{_∙_}
 use native.Mathlib.Omega.{arith}
-use mathlib.Core.List.{[]}
-use lib.ListN.{take}
+use lib.ListN.{drop, take}
 use borrow.Author.Needs.{needs}
-use Rattle.state.specs.Tables.{faultId, rowAt, listed}
-use Rattle.state.specs.Test.{rowPasses, rowsKept}
-use Rattle.arraycheck.specs.Walks.{refuted, held, Walked, rows-start, sinks, fails, passes, ends}
+use Rattle.state.specs.Test.{rowsKept}
+use Rattle.arraycheck.specs.Each.{each}
+use Rattle.arraycheck.specs.Walks.{refuted, held, Gathered, unwalked, ends, refuses, passes, each-past, each-refuses, each-passes}
+use Rattle.tablecheck.specs.Parts.{bare}
+use Rattle.tablecheck.specs.Apart.{among, rows-apart, rows-latch}
 use Rattle.tablecheck.proofs.rows_keep.Statement.{statement}
 use Rattle.tablecheck.proofs.rows_keep.Tie as tie
 
 abbrev Inv-loop : tie.InvT-loop
-Inv-loop ids n faultids responses latching m low₀ k₀ low k =
-    let f = rowAt faultids responses latching [] [] in
-    Walked faultId (rowPasses (take n ids)) f m (rowsKept (take n ids) (listed f 0 m)) low k
+Inv-loop ids n faultids responses latching m k₀ k =
+    let is = take n ids in Gathered (rowsKept is (bare faultids responses latching m)) (each (among is) (drop k (take m responses))) true
 
 abbrev μ-loop : tie.MeasureT-loop
-μ-loop ids n faultids responses latching m low₀ k₀ low k = m - k
+μ-loop ids n faultids responses latching m k₀ k = m - k
 
 pub rows-keep-spec : {M : Type 1} → statement M
 rows-keep-spec =
@@ -25,21 +26,19 @@ rows-keep-spec =
     (tie.spec
     Inv-loop
     μ-loop
-    (λ c. let a = c .before .before .before .before .args in rows-start (take (a .n) (a .ids .now)))
+    (λ c κs. search needs)
+    (λ c. refuses (let a = c .before .before .before .before .before .before .args in rows-apart (take (a .n) (a .ids .now)) (a .faultids .now) (a .responses .now) (a .latching .now) (a .m) (omega arith)) (refuted (c .before .rising .ensures) (c .if1 .taken)))
+    (λ c κs. search needs)
+    (λ c. refuses (let a = c .before .before .before .before .before .before .before .before .args in rows-latch (take (a .n) (a .ids .now)) (a .faultids .now) (a .responses .now) (a .latching .now) (a .m) (omega arith) (held (c .before .before .before .rising .ensures) (c .before .before .if1 .left))) (refuted (c .before .at-most .ensures) (c .if2 .taken)))
+    (λ c. passes (let a = c .before .before .before .before .before .before .before .before .args in rows-latch (take (a .n) (a .ids .now)) (a .faultids .now) (a .responses .now) (a .latching .now) (a .m) (omega arith) (held (c .before .before .before .rising .ensures) (c .before .before .if1 .left))) (held (c .before .at-most .ensures) (c .if2 .left)) unwalked)
     (λ c. search needs)
     (λ c. omega arith)
-    (λ c κs. tt)
-    (λ c. sinks (c .before .before .before .before .loop .inv) (omega arith))
-    (λ c. search needs)
-    (λ c. omega arith)
-    (λ c κs. c .before .before .before .before .before .before .before .before .before .before .pre .0)
-    (λ c. omega arith)
-    (λ c κs. tt)
-    (λ c. fails (c .before .before .before .before .before .before .before .before .before .loop .inv) (omega arith)
-    (refuted (c .before .row-ok .ensures ∙ rw (c .before .before .before .is-routed .ensures)) (c .if2 .taken)))
+    (λ c κs. c .before .before .before .before .before .before .before .before .before .before .before .pre .0)
+    (λ c. let h = c .before .before .before .before in let a = h .before .before .before .before .before .before .before .before .before .args in let p = among (take (a .n) (a .ids .now)) in
+    each-refuses p (a .responses .now) (a .m) (h .loop .k) (h .loop .inv) (omega arith) (refuted (c .before .holds .ensures 8 refl) (c .if3 .taken)))
     (λ c. omega arith)
     (λ c. omega arith)
-    (λ c. omega arith)
-    (λ c. passes (c .before .before .before .before .before .before .before .before .before .loop .inv) (omega arith)
-    (held (c .before .row-ok .ensures ∙ rw (c .before .before .before .is-routed .ensures)) (c .if2 .left)))
-    (λ c. ends (c .before .loop .inv) (omega arith)))
+    (λ c. let h = c .before .before .before .before in let a = h .before .before .before .before .before .before .before .before .before .args in let p = among (take (a .n) (a .ids .now)) in
+    each-passes p (a .responses .now) (a .m) (h .loop .k) (h .loop .inv) (omega arith) (held (c .before .holds .ensures 8 refl) (c .if3 .left)))
+    (λ c. let h = c .before in let a = h .before .before .before .before .before .before .before .before .before .args in let p = among (take (a .n) (a .ids .now)) in
+    ends (h .loop .inv) (each-past p (a .responses .now) (a .m) (h .loop .k) (omega arith))))

@@ -1,15 +1,17 @@
 -- `load`: the loop's invariant is `Walked`, and each way out is one of its laws. The measure is what is left of the image.
+-- Each kind has a part of its own: what its function answered, and what is known where that is 0.
 use mathlib.Core.Path.{_≡_, refl, _∙_}
-use mathlib.Core.List.{List, [], _∷_, _++_}
+use mathlib.Core.List.{List}
 use Prim.Native.Nat.{ℕ, _+_, _-_, _*_, _<_, _≤_}
 use native.Mathlib.Omega.{arith}
 use lib.ListN.{length, getD, take, drop, length-take}
-use Rattle.state.specs.declared.types.Config.{Config}
-use Rattle.image.specs.Image.{tablesOfRecords, refusalAfter}
+use Rattle.image.specs.Image.{tablesOfRecords, refusalAfter, refused, loadOf}
 use Rattle.records.specs.RecordLaws.{Whole, bodyAt}
-use Rattle.records.specs.Outcome.{GoodAfter}
+use Rattle.records.specs.Outcome.{GoodAfter, no-kind, past-kinds}
+use Rattle.records.specs.OutcomeLaws.{verdict-only}
+use Rattle.recordcheck.specs.Floor.{slots}
 use Rattle.image.specs.Loading.{nothing, only}
-use Rattle.image.specs.Held.{Held, columns, holds, args-long, six, three, two, fourth, seven, held-1, held-2, held-3, held-4}
+use Rattle.image.specs.Held.{columns, holds, args-long, six, three, two, seven, held-1, held-2, held-3, held-4}
 use Rattle.image.specs.Walk.{Walked, start, ends, cuts, found, refuses, not-refused, goes-on}
 use Rattle.image.proofs.load.load.Statement.{statement}
 use Rattle.image.proofs.load.load.Tie as tie
@@ -37,6 +39,9 @@ module _ (c : tie.After-word-at Inv-loop μ-loop) where
   abbrev body : List ℕ
   body = bodyAt bs (head .loop .at) end
 
+  abbrev w : Walked bs (head .loop .config) (head .loop .states) (head .loop .last) (head .loop .at)
+  w = head .loop .inv
+
   inside : head .loop .at < length bs
   inside = c .before .before .before .loop-test .taken
 
@@ -45,54 +50,144 @@ module _ (c : tie.After-word-at Inv-loop μ-loop) where
       let e = c .before .before .end-of .ensures .is-whole (c .before .if2 .left) in
       record { kind-is = c .word-at .ensures; end-is = e .0; inside = e .1 }
 
--- what its refusal is
-module _ (c : tie.After-refusal3 Inv-loop μ-loop) where
-  abbrev p : tie.After-word-at Inv-loop μ-loop
-  p = c .before .before .before .before .before .before
+  shorter : length bs - end < length bs - head .loop .at
+  shorter = omega (arith, inside, whole .end-is, whole .inside)
 
-  told : c .refusal3 .result ≡ refusalAfter (head p .loop .last) (tablesOfRecords (head p .loop .inv .before)) (kind p) (body p)
-  told = c .refusal3 .ensures _ (holds (head p .loop .inv .held))
+  abbrev Good : Type 0
+  Good = GoodAfter (w .before) (found w inside whole)
 
--- and where nothing refuses it
-module _ (c : tie.Else3 Inv-loop μ-loop) where
-  abbrev q : tie.After-word-at Inv-loop μ-loop
-  q = p (c .before)
+  -- it is of kind K, and the function of that kind answers n
+  abbrev Told : ℕ → ℕ → Type 0
+  Told K n = (kind ≡ K) × (n ≡ refusalAfter (head .loop .last) (tablesOfRecords (w .before)) K body)
 
-  abbrev w : Walked (bs q) (head q .loop .config) (head q .loop .states) (head q .loop .last) (head q .loop .at)
-  w = head q .loop .inv
+  bad : {K n : ℕ} → Told K n → (n ≡ 0 → ⊥) → refused n (head .loop .at) ≡ loadOf bs
+  bad t h = refuses w inside whole (t .0) (t .1) h
 
-  good : GoodAfter (w .before) (found w (inside q) (whole q))
-  good = not-refused w (inside q) (whole q) (told (c .before)) (c .if3 .left)
+  good : {K n : ℕ} → Told K n → n ≡ 0 → Good
+  good t z = not-refused w inside whole (t .0) (t .1) z
 
-  -- once it is stored the loop goes on
-  turn : {d : Config} {ss : List ℕ} → Held (w .before ++ found w (inside q) (whole q) ∷ []) d ss → Walked (bs q) d ss (kind q) (end q)
-  turn h = goes-on w (inside q) (whole q) good h
+-- ---- kind 1
 
-  shorter : length (bs q) - end q < length (bs q) - head q .loop .at
-  shorter = omega (arith, inside q, whole q .end-is, whole q .inside)
+module _ (c : tie.After-basics-refusal Inv-loop μ-loop) where
+  abbrev q-1 : tie.After-word-at Inv-loop μ-loop
+  q-1 = c .before .before .before .before
 
-  is-six : kind q ≡ 1 → length (body q) ≡ 6
-  is-six k = six (w .held) good k
+  told-1 : Told q-1 1 (c .basics-refusal .result)
+  told-1 = (omega arith, c .basics-refusal .ensures _)
 
-  is-three : kind q ≡ 2 → (length (body q) ≡ 3) × (head q .loop .config .nroutes < 128)
-  is-three k = three (w .held) good k
+module _ (c : tie.Else5 Inv-loop μ-loop) where
+  good-1 : Good (q-1 (c .before))
+  good-1 = good (q-1 (c .before)) (told-1 (c .before)) (c .if5 .left)
 
-  is-two : kind q ≡ 3 → (length (body q) ≡ 2) × (head q .loop .config .nprotected < 32)
-  is-two k = two (w .held) good k
+  is-six : length (body (q-1 (c .before))) ≡ 6
+  is-six = six (w (q-1 (c .before)) .held) good-1 (told-1 (c .before) .0)
 
--- a record of kind 4
-module _ (c : tie.Else6 Inv-loop μ-loop) where
-  abbrev o : tie.Else3 Inv-loop μ-loop
-  o = c .before .before .before
+returns-4 : tie.Need-returns-4 Inv-loop μ-loop
+returns-4 c =
+    let d = c .before .before in
+    c .refusal4 .ensures ∙ bad (q-1 d) (told-1 d) (c .before .if5 .taken)
 
-  is-four : kind (q o) ≡ 4
-  is-four = fourth (w o .held) (good o) (c .before .before .if4 .left, c .before .if5 .left, c .if6 .left)
+loop-again : tie.Need-loop-again Inv-loop μ-loop
+loop-again c =
+    let e = c .before .before .before .before .before .before in
+    let d = q-1 (e .before) in
+    goes-on (w d) (inside d) (whole d) (good-1 e)
+    (held-1 (w d .held) (good-1 e) (told-1 (e .before) .0) (
+      c .before .before .before .before .before .word-at2 .ensures,
+      c .before .before .before .word-at3 .ensures,
+      c .before .word-at4 .ensures,
+    ))
 
-  is-seven : let b = body (q o) in (length b ≡ 7 + getD b 6 0) × (getD b 6 0 ≤ 16) × (head (q o) .loop .config .nrows < 32)
-  is-seven = seven (w o .held) (good o) is-four
+-- ---- kind 2
 
-  args-fit : let b = body (q o) in head (q o) .loop .config .nrows * 16 + length (take (length b - 7) (drop 7 b)) ≤ 512
-  args-fit = let b = body (q o) in omega (arith, is-seven, length-take (length b - 7) (drop 7 b))
+module _ (c : tie.After-route-refusal Inv-loop μ-loop) where
+  abbrev q-2 : tie.After-word-at Inv-loop μ-loop
+  q-2 = c .before .before .before .before .before .before .before
+
+  told-2 : Told q-2 2 (c .route-refusal .result)
+  told-2 = (omega arith, c .route-refusal .ensures _ _ _ (holds (w q-2 .held)))
+
+module _ (c : tie.Else7 Inv-loop μ-loop) where
+  good-2 : Good (q-2 (c .before))
+  good-2 = good (q-2 (c .before)) (told-2 (c .before)) (c .if7 .left)
+
+  is-three : (length (body (q-2 (c .before))) ≡ 3) × (head (q-2 (c .before)) .loop .config .numbers .nroutes < 128)
+  is-three = three (w (q-2 (c .before)) .held) good-2 (told-2 (c .before) .0)
+
+returns-5 : tie.Need-returns-5 Inv-loop μ-loop
+returns-5 c =
+    let d = c .before .before in
+    c .refusal5 .ensures ∙ bad (q-2 d) (told-2 d) (c .before .if7 .taken)
+
+loop-again-2 : tie.Need-loop-again-2 Inv-loop μ-loop
+loop-again-2 c =
+    let e = c .before .before .before in
+    let d = q-2 (e .before) in
+    goes-on (w d) (inside d) (whole d) (good-2 e) (held-2 (w d .held) (good-2 e) (told-2 (e .before) .0) (c .before .before .word-at5 .ensures))
+
+-- ---- kind 3
+
+module _ (c : tie.After-protected-refusal Inv-loop μ-loop) where
+  abbrev q-3 : tie.After-word-at Inv-loop μ-loop
+  q-3 = c .before .before .before .before .before .before .before .before .before
+
+  told-3 : Told q-3 3 (c .protected-refusal .result)
+  told-3 = (omega arith, c .protected-refusal .ensures _ _ (holds (w q-3 .held)))
+
+module _ (c : tie.Else9 Inv-loop μ-loop) where
+  good-3 : Good (q-3 (c .before))
+  good-3 = good (q-3 (c .before)) (told-3 (c .before)) (c .if9 .left)
+
+  is-two : (length (body (q-3 (c .before))) ≡ 2) × (head (q-3 (c .before)) .loop .config .numbers .nprotected < 32)
+  is-two = two (w (q-3 (c .before)) .held) good-3 (told-3 (c .before) .0)
+
+returns-6 : tie.Need-returns-6 Inv-loop μ-loop
+returns-6 c =
+    let d = c .before .before in
+    c .refusal6 .ensures ∙ bad (q-3 d) (told-3 d) (c .before .if9 .taken)
+
+loop-again-3 : tie.Need-loop-again-3 Inv-loop μ-loop
+loop-again-3 c =
+    let e = c .before .before in
+    let d = q-3 (e .before) in
+    goes-on (w d) (inside d) (whole d) (good-3 e) (held-3 (w d .held) (good-3 e) (told-3 (e .before) .0) (c .before .word-at6 .ensures))
+
+-- ---- kind 4
+
+module _ (c : tie.After-fault-row-refusal Inv-loop μ-loop) where
+  abbrev q-4 : tie.After-word-at Inv-loop μ-loop
+  q-4 = c .before .before .before .before .before .before .before .before .before .before
+
+  told-4 : Told q-4 4 (c .fault-row-refusal .result)
+  told-4 = (omega arith, c .fault-row-refusal .ensures _ _ _ (holds (w q-4 .held)))
+
+module _ (c : tie.Else11 Inv-loop μ-loop) where
+  good-4 : Good (q-4 (c .before))
+  good-4 = good (q-4 (c .before)) (told-4 (c .before)) (c .if11 .left)
+
+  is-seven : let b = body (q-4 (c .before)) in (length b ≡ 7 + getD b 6 0) × (getD b 6 0 ≤ 16) × (head (q-4 (c .before)) .loop .config .numbers .nrows < 32)
+  is-seven = seven (w (q-4 (c .before)) .held) good-4 (told-4 (c .before) .0)
+
+  args-fit : let b = body (q-4 (c .before)) in head (q-4 (c .before)) .loop .config .numbers .nrows * 16 + length (take (length b - 7) (drop 7 b)) ≤ 512
+  args-fit = let b = body (q-4 (c .before)) in omega (arith, is-seven, length-take (length b - 7) (drop 7 b))
+
+returns-7 : tie.Need-returns-7 Inv-loop μ-loop
+returns-7 c =
+    let d = c .before .before in
+    c .refusal7 .ensures ∙ bad (q-4 d) (told-4 d) (c .before .if11 .taken)
+
+loop-again-4 : tie.Need-loop-again-4 Inv-loop μ-loop
+loop-again-4 c =
+    let e = c .before .before .before .before .before .before .before .before .before in
+    let d = q-4 (e .before) in
+    goes-on (w d) (inside d) (whole d) (good-4 e)
+    (held-4 (w d .held) (good-4 e) (told-4 (e .before) .0) (
+      c .before .before .before .before .before .before .before .before .word-at7 .ensures,
+      c .before .before .before .before .before .before .before .word-at8 .ensures,
+      c .before .before .put-args .ensures,
+    ))
+
+-- ---- no record, and no kind
 
 returns-2 : tie.Need-returns-2 Inv-loop μ-loop
 returns-2 c =
@@ -101,36 +196,10 @@ returns-2 c =
     (c .before .before .end-of .ensures .is-cut (c .before .if2 .taken))
 
 returns-3 : tie.Need-returns-3 Inv-loop μ-loop
-returns-3 c =
-    let d = p (c .before .before) in
-    c .refusal4 .ensures ∙ refuses (head d .loop .inv) (inside d) (whole d) (told (c .before .before)) (c .before .if3 .taken)
+returns-3 c = c .refusal3 .ensures ∙ bad (c .before .before .before) (refl, verdict-only (no-kind (c .before .if3 .taken))) (omega arith)
 
-loop-again : tie.Need-loop-again Inv-loop μ-loop
-loop-again c =
-    let d = c .before .before .before .before in
-    turn d
-    (held-1 (w d .held) (good d) (c .before .before .before .if4 .taken) (c .before .before .word-at2 .ensures, c .before .word-at3 .ensures, c .word-at4 .ensures))
-
-loop-again-2 : tie.Need-loop-again-2 Inv-loop μ-loop
-loop-again-2 c =
-    let d = c .before .before .before .before in
-    turn d (held-2 (w d .held) (good d) (c .before .before .if5 .taken) (c .before .word-at5 .ensures))
-
-loop-again-3 : tie.Need-loop-again-3 Inv-loop μ-loop
-loop-again-3 c =
-    let d = c .before .before .before .before in
-    turn d (held-3 (w d .held) (good d) (c .before .if6 .taken) (c .word-at6 .ensures))
-
-loop-again-4 : tie.Need-loop-again-4 Inv-loop μ-loop
-loop-again-4 c =
-    let f = c .before .before .before .before .before .before .before .before in
-    let d = o f in
-    turn d
-    (held-4 (w d .held) (good d) (is-four f) (
-      c .before .before .before .before .before .before .before .word-at7 .ensures,
-      c .before .before .before .before .before .before .word-at8 .ensures,
-      c .before .put-args .ensures,
-    ))
+returns-8 : tie.Need-returns-8 Inv-loop μ-loop
+returns-8 c = c .refusal8 .ensures ∙ bad (c .before .before .before .before .before .before .before) (refl, verdict-only (past-kinds (c .before .if10 .left))) (omega arith)
 
 pub load-spec : {M : Type 1} → statement M
 load-spec =
@@ -151,28 +220,39 @@ load-spec =
     (λ c. omega (arith, whole c .end-is))
     (λ c. omega (arith, whole c .end-is, whole c .inside))
     (λ c. omega (arith, whole c .end-is, whole c .inside))
-    (λ c κs. columns (head (c .before .before .before .before .before) .loop .inv .held))
     (λ c κs. tt)
     returns-3
-    (λ c κs. omega (arith, is-six (c .before) (c .if4 .taken)))
-    (λ c κs. omega (arith, is-six (c .before .before) (c .before .if4 .taken)))
-    (λ c κs. omega (arith, is-six (c .before .before .before) (c .before .before .if4 .taken)))
-    (λ c. shorter (c .before .before .before .before))
+    (λ c κs. tt)
+    (λ c κs. tt)
+    returns-4
+    (λ c κs. omega (arith, is-six c))
+    (λ c κs. omega (arith, is-six (c .before .before)))
+    (λ c κs. omega (arith, is-six (c .before .before .before .before)))
+    (λ c. shorter (q-1 (c .before .before .before .before .before .before .before)))
     loop-again
-    (λ c κs. omega (arith, is-three (c .before .before) (c .if5 .taken)))
-    (λ c. omega (arith, is-three (c .before .before .before) (c .before .if5 .taken)))
-    (λ c. is-three (c .before .before .before) (c .before .if5 .taken) .1)
-    (λ c. omega (arith, is-three (c .before .before .before .before) (c .before .before .if5 .taken)))
-    (λ c. is-three (c .before .before .before .before) (c .before .before .if5 .taken) .1)
-    (λ c. omega (arith, is-three (c .before .before .before .before) (c .before .before .if5 .taken)))
-    (λ c. shorter (c .before .before .before .before))
+    (λ c κs. slots (columns (head (c .before .before .before .before .before .before) .loop .inv .held) .0))
+    (λ c κs. tt)
+    returns-5
+    (λ c κs. omega (arith, is-three c))
+    (λ c. omega (arith, is-three (c .before)))
+    (λ c. is-three (c .before) .1)
+    (λ c. omega (arith, is-three (c .before .before)))
+    (λ c. is-three (c .before .before) .1)
+    (λ c. omega (arith, is-three (c .before .before)))
+    (λ c. shorter (q-2 (c .before .before .before .before)))
     loop-again-2
-    (λ c κs. omega (arith, is-two (c .before .before .before) (c .if6 .taken)))
-    (λ c. omega (arith, is-two (c .before .before .before .before) (c .before .if6 .taken)))
-    (λ c. is-two (c .before .before .before .before) (c .before .if6 .taken) .1)
-    (λ c. omega (arith, is-two (c .before .before .before .before) (c .before .if6 .taken)))
-    (λ c. shorter (c .before .before .before .before))
+    (λ c κs. let s = columns (head (c .before .before .before .before .before .before .before .before) .loop .inv .held) in (s .0, s .1))
+    (λ c κs. tt)
+    returns-6
+    (λ c κs. omega (arith, is-two c))
+    (λ c. omega (arith, is-two (c .before)))
+    (λ c. is-two (c .before) .1)
+    (λ c. omega (arith, is-two (c .before)))
+    (λ c. shorter (q-3 (c .before .before .before)))
     loop-again-3
+    (λ c κs. let s = columns (head (c .before .before .before .before .before .before .before .before .before) .loop .inv .held) in (s .0, s .2))
+    (λ c κs. tt)
+    returns-7
     (λ c κs. omega (arith, is-seven c))
     (λ c. omega (arith, is-seven (c .before)))
     (λ c. is-seven (c .before) .2)
@@ -187,11 +267,13 @@ load-spec =
     (λ c. omega (arith, is-seven (c .before .before .before .before .before)))
     (λ c. omega (arith, is-seven (c .before .before .before .before .before)))
     (λ c. omega (arith, is-seven (c .before .before .before .before .before)))
-    (λ c κs. let f = c .before .before .before .before .before .before in (args-long (w (o f) .held), args-fit f))
+    (λ c κs. let e = c .before .before .before .before .before .before in (args-long (w (q-4 (e .before)) .held), args-fit e))
     (λ c. omega (arith, is-seven (c .before .before .before .before .before .before .before .before)))
     (λ c. is-seven (c .before .before .before .before .before .before .before .before) .2)
     (λ c. omega (arith, is-seven (c .before .before .before .before .before .before .before .before)))
-    (λ c. shorter (o (c .before .before .before .before .before .before .before .before)))
+    (λ c. shorter (q-4 (c .before .before .before .before .before .before .before .before .before .before)))
     loop-again-4
+    (λ c κs. tt)
+    returns-8
     (λ c κs. tt)
     (λ c. rw (c .fresh .ensures) (ends (c .before .before .loop .inv) (c .before .loop-test .left))))

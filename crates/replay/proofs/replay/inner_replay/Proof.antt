@@ -4,23 +4,65 @@ use mathlib.Core.Path.{_≡_, refl, sym, ap, _∙_}
 use mathlib.Core.List.{List}
 use Prim.Native.Nat.{ℕ, _+_, _-_, _<_, _≤_}
 use native.Mathlib.Omega.{arith}
-use lib.ListN.{length, take, drop, length-drop}
-use borrow.Author.Tests.{eq-eqb, ne-eqb}
-use Rattle.records.specs.RecordLaws.{Whole, bodyAt}
-use Rattle.history.specs.Plain.{packet, tick, fault}
-use Rattle.replayrules.specs.RecordingLaws.{fault-sized, packet-event, tick-event, fault-event}
+use lib.ListN.{length, length-drop}
+use borrow.Author.Needs.{needs}
 use Rattle.wire.specs.Bytes.{part-bytes}
+use Rattle.records.specs.RecordLaws.{Whole, bodyAt}
+use Rattle.state.specs.declared.types.Config.{Config}
+use Rattle.state.specs.declared.types.Run.{Run}
+use Rattle.state.specs.declared.types.Arm.{Arm}
+use Rattle.state.specs.declared.types.Counts.{Counts}
+use Rattle.state.specs.Tables.{configFrom, runFrom}
+use Rattle.state.specs.Sized.{LentState}
+use Rattle.arming.specs.declared.Ticked.{Ticked}
+use Rattle.arming.specs.Arming.{tickedBy}
+use Rattle.steprules.specs.declared.types.Answer.{Answer}
+use Rattle.steprules.specs.Bare.{bareAnswer}
+use Rattle.steprules.specs.Step.{tickStep}
+use Rattle.steprules.specs.Found.{lend}
+use Rattle.steprules.specs.MovedOn.{lend-states, lend-rows, fault-moved, fault-put}
+use Rattle.history.specs.Plain.{packet, tick, fault}
+use Rattle.replayrules.specs.declared.types.Reached.{Reached}
+use Rattle.replayrules.specs.RecordingLaws.{is-packet, is-tick, long-tick, only, fault-sized, packet-event, tick-event, fault-event}
+use Rattle.replayrules.specs.Recording.{kindRefusal}
 use Rattle.replayrules.specs.PathLaws.{packet-over, fault-over}
 use Rattle.replayrules.specs.OutputLaws.{partFrom, part-is}
-use Rattle.replayrules.specs.Walk.{Going, start, same, ends, cuts, found, refuses, cramped, goes-on, goes-on-silent}
+use Rattle.replayrules.specs.Walk.{Told, Going, start, same, ends, cuts, found, refuses, cramped, goes-on, goes-on-silent}
+use Rattle.replayrules.specs.Replay.{stoppedAt, pieceLeft, Replays}
 use Rattle.replay.proofs.replay.inner_replay.Statement.{statement}
 use Rattle.replay.proofs.replay.inner_replay.Tie as tie
 
 abbrev Inv-loop : tie.InvT-loop
-Inv-loop config recording out₀ left₀ read₀ count₀ wrote₀ out left read count wrote = Going config recording out₀ left₀ out left read count wrote
+Inv-loop numbers routeids dests protected faultids responses latching argcounts args states₀ recording out₀ arm₀ counts₀ read₀ count₀ wrote₀ states out arm counts read count wrote =
+    Going (configFrom numbers routeids dests protected faultids responses latching argcounts args) recording out₀ (runFrom arm₀ counts₀ states₀) out (runFrom arm counts states) read count wrote × (length states ≡ 32)
 
 abbrev μ-loop : tie.MeasureT-loop
-μ-loop config recording out₀ left₀ read₀ count₀ wrote₀ out left read count wrote = length recording - read
+μ-loop numbers routeids dests protected faultids responses latching argcounts args states₀ recording out₀ arm₀ counts₀ read₀ count₀ wrote₀ states out arm counts read count wrote = length recording - read
+
+-- said of the entry, since a search from a later place meets too many records
+bounded : (c : tie.Start Inv-loop μ-loop) → length (c .args .out .now) < 18446744073709551616
+bounded c = omega arith
+
+-- what the loop was lent
+module _ (h : tie.At-loop Inv-loop μ-loop) where
+  abbrev entry : tie.Start Inv-loop μ-loop
+  entry = h .before .before .before
+
+  abbrev lent : Config
+  lent =
+      let a = entry .args in
+      configFrom (a .numbers) (a .routeids .now) (a .dests .now) (a .protected .now) (a .faultids .now) (a .responses .now) (a .latching .now) (a .argcounts .now) (a .args .now)
+
+  abbrev s₀ : Run
+  s₀ = runFrom (entry .args .arm) (entry .args .counts) (entry .args .states .now)
+
+  -- the piece where it stops
+  abbrev Stops : ℕ → Type 0
+  Stops n = Told lent (entry .args .recording .now) (entry .args .out .now) s₀ (h .loop .out) (stoppedAt (runFrom (h .loop .armed) (h .loop .counted) (h .loop .states)) n (h .loop .read) (h .loop .count) (h .loop .wrote))
+
+  here : {n : ℕ} {r : Reached} → Stops n → r ≡ record { arm = h .loop .armed; counts = h .loop .counted; stop = n; read = h .loop .read; count = h .loop .count; wrote = h .loop .wrote }
+      → Replays lent s₀ (entry .args .recording .now) (entry .args .out .now) r (h .loop .states) (h .loop .out)
+  here t e = record { told = ap (λ (x : Reached). pieceLeft x (h .loop .states)) e ∙ t .told; output = t .output }
 
 -- the record at the cursor is whole
 module _ (c : tie.After-word-at Inv-loop μ-loop) where
@@ -28,13 +70,13 @@ module _ (c : tie.After-word-at Inv-loop μ-loop) where
   head = c .before .before .before .before
 
   abbrev bs : List ℕ
-  bs = head .before .before .before .args .recording .now
+  bs = entry head .args .recording .now
 
   abbrev out : List ℕ
   out = head .loop .out
 
   abbrev out₀ : List ℕ
-  out₀ = head .before .before .before .args .out .now
+  out₀ = entry head .args .out .now
 
   abbrev kind : ℕ
   kind = c .word-at .result
@@ -42,8 +84,8 @@ module _ (c : tie.After-word-at Inv-loop μ-loop) where
   abbrev end : ℕ
   end = c .before .before .end-of .result
 
-  abbrev g : Going (head .before .before .before .args .config) bs out₀ (head .before .before .before .args .run) out (head .loop .left) (head .loop .read) (head .loop .count) (head .loop .wrote)
-  g = head .loop .inv
+  abbrev g : Going (lent head) bs out₀ (s₀ head) out (runFrom (head .loop .armed) (head .loop .counted) (head .loop .states)) (head .loop .read) (head .loop .count) (head .loop .wrote)
+  g = head .loop .inv .0
 
   inside : head .loop .read < length bs
   inside = c .before .before .before .loop-test .taken
@@ -53,94 +95,148 @@ module _ (c : tie.After-word-at Inv-loop μ-loop) where
       let e = c .before .before .end-of .ensures .is-whole (c .before .if1 .left) in
       record { kind-is = c .word-at .ensures; end-is = e .0; inside = e .1 }
 
+  -- said here, since a search from the end of an arm meets too many records
+  counts-on : head .loop .count + 1 < 18446744073709551616
+  counts-on = omega (arith, g .few, inside)
+
   shorter : length bs - end < length bs - head .loop .read
   shorter = omega (arith, inside, whole .end-is, whole .inside)
 
--- and there is room for its reply
+  abbrev size : ℕ
+  size = length (bodyAt bs (head .loop .read) end)
+
+  -- and there is room for its reply
+  module _ (h : 266 ≤ length out - head .loop .wrote) where
+    room : 266 ≤ length out₀ - head .loop .wrote
+    room = omega (arith, same g, h)
+
+    fits : head .loop .wrote + 266 ≤ length out
+    fits = omega (arith, same g, room)
+
+    part-room : 260 ≤ length (partFrom out (head .loop .wrote + 6))
+    part-room = rw (part-is out (head .loop .wrote + 6)) (omega (arith, length-drop (head .loop .wrote + 6) out, fits))
+
+  -- or not
+  stops-21 : {n : ℕ} → n ≡ kindRefusal kind size → n ≡ 0 → length out - head .loop .wrote < 266 → Stops head 21
+  stops-21 e z h = cramped g inside whole e z (omega (arith, same g, h))
+
+-- a packet, with room
 module _ (c : tie.Else3 Inv-loop μ-loop) where
   abbrev d : tie.After-word-at Inv-loop μ-loop
-  d = c .before .before .before .before
+  d = c .before .before .before
 
-  room : 266 ≤ length (out₀ d) - head d .loop .wrote
-  room = omega (arith, same (g d), c .if3 .left)
+  taken : 0 ≡ kindRefusal (kind d) (size d)
+  taken = only (is-packet (c .before .if2 .taken))
 
-  fits : head d .loop .wrote + 266 ≤ length (out d)
-  fits = omega (arith, same (g d), room)
+-- a tick, with room
+module _ (c : tie.Else6 Inv-loop μ-loop) where
+  abbrev t : tie.After-word-at Inv-loop μ-loop
+  t = c .before .before .before .before .before
 
-  part-room : 260 ≤ length (partFrom (out d) (head d .loop .wrote + 6))
-  part-room = rw (part-is (out d) (head d .loop .wrote + 6)) (omega (arith, length-drop (head d .loop .wrote + 6) (out d), fits))
+  ticks-on : 0 ≡ kindRefusal (kind t) (size t)
+  ticks-on = only (is-tick (c .before .before .if4 .taken) (c .before .if5 .left))
 
-  not-refused : c .before .before .refusal .result ≡ 0
-  not-refused = c .before .if2 .left
+-- a record that is no packet and no tick is a fault's, with room
+module _ (c : tie.Else8 Inv-loop μ-loop) where
+  abbrev f : tie.After-word-at Inv-loop μ-loop
+  f = c .before .before .before .before .before .before
 
--- a record that is no packet and no tick is a fault's
-module _ (c : tie.Else5 Inv-loop μ-loop) where
-  a-fault : (kind (d (c .before .before)) ≡ 18) × (length (bodyAt (bs (d (c .before .before))) (head (d (c .before .before)) .loop .read) (end (d (c .before .before)))) ≡ 2)
-  a-fault = let m = c .before .before in fault-sized (sym (m .before .before .refusal .ensures) ∙ not-refused m) (c .before .if4 .left) (c .if5 .left)
+  a-fault : (kind f ≡ 18) × (size f ≡ 2)
+  a-fault = let o = c .before .before .before in fault-sized (sym (c .before .before .refusal .ensures) ∙ c .before .if7 .left) (o .before .if2 .left) (o .if4 .left)
+
+-- a tick on the arm record is the tick step
+ticks : (arm : Arm) (counts : Counts) (states : List ℕ) (t : Ticked) (a : Answer) → t ≡ tickedBy arm → a ≡ bareAnswer (t .answer)
+    → record { run = runFrom (t .arm) counts states; answer = a } ≡ tickStep (runFrom arm counts states)
+unfolding tickStep
+ticks arm counts states t a e q = rw (q, e)
 
 loop-holds : tie.Need-loop-holds Inv-loop μ-loop
-loop-holds c = start (c .before .before .pre) _ _
+loop-holds c = let l = c .before .before .pre in (start (l .keeps) _ _, l .sized-run .states-32)
 
--- the piece where it stops
 returns : tie.Need-returns Inv-loop μ-loop
 returns c =
     let t = c .before in
     let h = t .before .before .before in
-    let r = cuts (h .loop .inv) (t .before .before .loop-test .taken) (t .before .end-of .ensures .is-cut (t .if1 .taken)) in
-    (c .stopped .ensures ∙ r .told, r .output)
+    here h (cuts (h .loop .inv .0) (t .before .before .loop-test .taken) (t .before .end-of .ensures .is-cut (t .if1 .taken))) (c .stopped .ensures)
 
 returns-2 : tie.Need-returns-2 Inv-loop μ-loop
 returns-2 c =
-    let t = c .before in
-    let d = t .before .before .before in
-    let r = refuses (g d) (inside d) (whole d) (t .before .refusal .ensures) (t .if2 .taken) in
-    (c .stopped2 .ensures ∙ r .told, r .output)
+    let w = c .before in
+    let e = w .before .before .before in
+    here (head e) (stops-21 e (only (is-packet (w .before .if2 .taken))) refl (w .if3 .taken)) (c .stopped2 .ensures)
 
 returns-3 : tie.Need-returns-3 Inv-loop μ-loop
 returns-3 c =
-    let t = c .before in
-    let d = t .before .before .before .before in
-    let r = cramped (g d) (inside d) (whole d) (t .before .before .refusal .ensures) (t .before .if2 .left) (omega (arith, same (g d), t .if3 .taken)) in
-    (c .stopped3 .ensures ∙ r .told, r .output)
+    let w = c .before in
+    let e = w .before .before .before .before in
+    here (head e) (refuses (g e) (inside e) (whole e) (only (long-tick (w .before .if4 .taken) (w .if5 .taken))) (λ z. omega arith)) (c .stopped3 .ensures)
 
 returns-4 : tie.Need-returns-4 Inv-loop μ-loop
 returns-4 c =
-    let t = c .before in
-    let r = ends (t .before .loop .inv) (t .loop-test .left) in
-    (c .stopped4 .ensures ∙ r .told, r .output)
+    let w = c .before in
+    let e = w .before .before .before .before .before in
+    here (head e) (stops-21 e (only (is-tick (w .before .before .if4 .taken) (w .before .if5 .left))) refl (w .if6 .taken)) (c .stopped4 .ensures)
+
+returns-5 : tie.Need-returns-5 Inv-loop μ-loop
+returns-5 c =
+    let w = c .before in
+    let e = w .before .before .before .before .before in
+    here (head e) (refuses (g e) (inside e) (whole e) (w .before .refusal .ensures) (w .if7 .taken)) (c .stopped5 .ensures)
+
+returns-6 : tie.Need-returns-6 Inv-loop μ-loop
+returns-6 c =
+    let w = c .before in
+    let e = w .before .before .before .before .before .before in
+    here (head e) (stops-21 e (w .before .before .refusal .ensures) (w .before .if7 .left) (w .if8 .taken)) (c .stopped6 .ensures)
+
+returns-7 : tie.Need-returns-7 Inv-loop μ-loop
+returns-7 c = let t = c .before in here (t .before) (ends (t .before .loop .inv .0) (t .loop-test .left)) (c .stopped7 .ensures)
 
 loop-again : tie.Need-loop-again Inv-loop μ-loop
 loop-again c =
-    let m = c .before .before .before .before .before .before .before .before .before .before in
+    let n = c .before .before .before .before in
+    let s = n .before .before .before .before .before in
+    let m = s .before .before .before in
     let e = d m in
-    let n = c .before .before .before in
-    let s = n .before .before .before .before in
-    rw (n .put-numbers .ensures .0)
-    (goes-on (g e) (inside e) (whole e) (m .before .before .refusal .ensures) (not-refused m) (room m)
-    {ev = packet (bodyAt (bs e) (head e .loop .read) (end e))} (packet-event (found (g e) (inside e) (whole e)) (s .before .before .if4 .taken)) (part-bytes (bs e) (λ k. head e .before .before .shared-slice-known .given k .fits) (head e .loop .read + 4) (end e - (head e .loop .read + 4))) (s .inner-packet .ensures .0)
-    (s .inner-packet .ensures .1 ∙ packet-over _ _ _ _) (n .before .before .before .out .given .0) (n .put-numbers .ensures .1))
+    let moves = s .inner-packet .ensures (lent (head e) .responses) (lent (head e) .latching) (lent (head e) .argcounts) (lent (head e) .args) in (
+      rw (n .put-numbers .ensures .0, c .before .after-packet .ensures)
+          (goes-on (g e) (inside e) (whole e) (taken m) refl (room e (m .if3 .left))
+          {ev = packet (bodyAt (bs e) (head e .loop .read) (end e))} (packet-event (found (g e) (inside e) (whole e)) (m .before .if2 .taken)) (part-bytes (bs e) (λ k. head e .before .before .shared-slice-known .given k .fits) (head e .loop .read + 4) (end e - (head e .loop .read + 4))) (moves .step (head e .loop .counted))
+          (moves .output ∙ packet-over _ _ _ _) (n .before .before .before .before .out .given .0) (n .put-numbers .ensures .1)),
+      moves .long ∙ head e .loop .inv .1,
+    )
 
 loop-again-2 : tie.Need-loop-again-2 Inv-loop μ-loop
 loop-again-2 c =
-    let m = c .before .before .before .before .before .before .before .before in
-    let e = d m in
     let n = c .before .before .before in
-    let s = n .before .before in
-    rw (n .put-numbers2 .ensures .0)
-    (goes-on-silent (g e) (inside e) (whole e) (m .before .before .refusal .ensures) (not-refused m) (room m)
-    {ev = tick} (tick-event (found (g e) (inside e) (whole e)) (s .before .if5 .taken)) tt (s .inner-tick .ensures) refl (n .put-numbers2 .ensures .1))
+    let s = n .before .before .before in
+    let m = s .before in
+    let e = t m in (
+      rw (n .put-numbers2 .ensures .0)
+          (goes-on-silent (g e) (inside e) (whole e) (ticks-on m) refl (room e (m .if6 .left))
+          {ev = tick} (tick-event (found (g e) (inside e) (whole e)) (m .before .before .if4 .taken)) tt (ticks _ _ _ _ _ (s .tick-of .ensures) (n .before .bare .ensures)) refl (n .put-numbers2 .ensures .1)),
+      head e .loop .inv .1,
+    )
 
 loop-again-3 : tie.Need-loop-again-3 Inv-loop μ-loop
 loop-again-3 c =
-    let f = c .before .before .before .before .before .before .before .before .before .before in
-    let m = f .before .before in
-    let e = d m in
     let n = c .before .before .before in
     let s = n .before .before .before .before in
-    rw (n .put-numbers3 .ensures .0)
-    (goes-on (g e) (inside e) (whole e) (m .before .before .refusal .ensures) (not-refused m) (room m)
-    {ev = fault (s .before .before .word-at2 .result)} (fault-event (found (g e) (inside e) (whole e)) (a-fault f .0) ∙ ap fault (sym (s .before .before .word-at2 .ensures))) tt (s .inner-fault .ensures .0)
-    (s .inner-fault .ensures .1 ∙ fault-over _ _ _ _) (n .before .before .before .out4 .given .0) (n .put-numbers3 .ensures .1))
+    let w = s .before .before .before in
+    let m = w .before in
+    let e = f m in
+    let moves = s .inner-fault .ensures (lent (head e) .protected) in
+    let z = entry (head e) .pre .sized in (
+      rw (n .put-numbers3 .ensures .0, c .after-fault .ensures)
+          (goes-on (g e) (inside e) (whole e) (m .before .before .refusal .ensures) (m .before .if7 .left) (room e (m .if8 .left))
+          {ev = fault (w .word-at2 .result)} (fault-event (found (g e) (inside e) (whole e)) (a-fault m .0) ∙ ap fault (sym (w .word-at2 .ensures))) tt (fault-moved (g e .keeps) z moves)
+          (fault-put (g e .keeps) z moves ∙ fault-over _ _ _ _) (n .before .before .before .out4 .given .0) (n .put-numbers3 .ensures .1)),
+      moves .long ∙ head e .loop .inv .1,
+    )
+
+-- the place of a reply
+placed : (e : tie.After-word-at Inv-loop μ-loop) → 266 ≤ length (out e) - head e .loop .wrote → head e .loop .wrote + 6 < 18446744073709551616
+placed e h = omega (arith, room e h, bounded (entry (head e)))
 
 pub inner-replay-spec : {M : Type 1} → statement M
 inner-replay-spec =
@@ -149,9 +245,9 @@ inner-replay-spec =
     Inv-loop
     μ-loop
     loop-holds
-    (λ c κs. c .before .loop .inv .inside)
+    (λ c κs. c .before .loop .inv .0 .inside)
     (λ c κs. tt)
-    (λ c. same (c .before .before .before .before .loop .inv))
+    (λ c. same (c .before .before .before .before .loop .inv .0))
     returns
     (λ c. omega (arith, c .before .end-of .ensures .is-whole (c .if1 .left)))
     (λ c κs. omega (arith, c .before .end-of .ensures .is-whole (c .if1 .left)))
@@ -159,37 +255,58 @@ inner-replay-spec =
     (λ c. omega (arith, whole c .end-is))
     (λ c. omega (arith, whole c .end-is, whole c .inside))
     (λ c. omega (arith, whole c .end-is, whole c .inside))
-    (λ c κs. tt)
+    (λ c. let e = c .before .before in omega (arith, g e .fits, same (g e)))
     (λ c κs. tt)
     (λ c. same (g (c .before .before .before .before)))
     returns-2
-    (λ c. let e = c .before .before .before in omega (arith, g e .fits, same (g e)))
+    (λ c. omega (arith, placed (d c) (c .if3 .left)))
+    (λ c. omega (arith, fits (d (c .before)) (c .before .if3 .left)))
+    (λ c. omega (arith, fits (d (c .before)) (c .before .if3 .left)))
+    (λ c. omega (arith, fits (d (c .before)) (c .before .if3 .left)))
+    (λ c κs. let m = c .before .before in
+    let e = d m in
+    (lend (g e .keeps) (entry (head e) .pre .sized), lend-states (g e .keeps) (record { states-32 = head e .loop .inv .1 }), part-room e (m .if3 .left)))
+    (λ c κs. let m = c .before .before .before .before .before .before .before in
+    omega (arith, fits (d m) (m .if3 .left), c .before .before .before .out .given .1))
+    (λ c κs. tt)
+    (λ c. let e = d (c .before .before .before .before .before .before .before .before .before .before .before .before) in omega (arith, counts-on e))
+    (λ c. shorter (d (c .before .before .before .before .before .before .before .before .before .before .before .before)))
+    loop-again
     (λ c κs. tt)
     (λ c. same (g (c .before .before .before .before .before)))
     returns-3
-    (λ c. omega (arith, fits c))
-    (λ c. omega (arith, fits (c .before)))
-    (λ c. omega (arith, fits (c .before)))
-    (λ c. omega (arith, fits (c .before)))
-    (λ c κs. (g (d (c .before .before)) .keeps, part-room (c .before .before)))
-    (λ c κs. omega (arith, fits (c .before .before .before .before .before .before), c .before .before .out .given .1))
-    (λ c. let e = d (c .before .before .before .before .before .before .before .before .before .before) in omega (arith, g e .few, inside e))
-    (λ c. shorter (d (c .before .before .before .before .before .before .before .before .before .before)))
-    loop-again
+    (λ c. let e = c .before .before .before .before in omega (arith, g e .fits, same (g e)))
     (λ c κs. tt)
-    (λ c κs. omega (arith, fits (c .before .before .before .before)))
-    (λ c. let e = d (c .before .before .before .before .before .before .before .before) in omega (arith, g e .few, inside e))
-    (λ c. shorter (d (c .before .before .before .before .before .before .before .before)))
+    (λ c. same (g (c .before .before .before .before .before .before)))
+    returns-4
+    (λ c κs. tt)
+    (λ c κs. tt)
+    (λ c κs. let m = c .before .before .before in omega (arith, fits (t m) (m .if6 .left)))
+    (λ c. let e = t (c .before .before .before .before .before .before .before) in omega (arith, counts-on e))
+    (λ c. shorter (t (c .before .before .before .before .before .before .before)))
     loop-again-2
+    (λ c κs. tt)
+    (λ c κs. tt)
+    (λ c. same (g (c .before .before .before .before .before .before)))
+    returns-5
+    (λ c. let e = c .before .before .before .before .before in omega (arith, g e .fits, same (g e)))
+    (λ c κs. tt)
+    (λ c. same (g (c .before .before .before .before .before .before .before)))
+    returns-6
+    (λ c. omega (arith, placed (f c) (c .if8 .left)))
     (λ c κs. omega (arith, a-fault c .1))
-    (λ c. omega (arith, fits (c .before .before .before)))
-    (λ c. omega (arith, fits (c .before .before .before)))
-    (λ c. omega (arith, fits (c .before .before .before)))
-    (λ c κs. (g (d (c .before .before .before .before)) .keeps, part-room (c .before .before .before .before)))
-    (λ c κs. omega (arith, fits (c .before .before .before .before .before .before .before .before), c .before .before .out4 .given .1))
-    (λ c. let e = d (c .before .before .before .before .before .before .before .before .before .before .before .before) in omega (arith, g e .few, inside e))
-    (λ c. shorter (d (c .before .before .before .before .before .before .before .before .before .before .before .before)))
+    (λ c. let m = c .before .before in omega (arith, fits (f m) (m .if8 .left)))
+    (λ c. let m = c .before .before in omega (arith, fits (f m) (m .if8 .left)))
+    (λ c. let m = c .before .before in omega (arith, fits (f m) (m .if8 .left)))
+    (λ c κs. let m = c .before .before .before in
+    let e = f m in
+    (lend-rows (g e .keeps) (entry (head e) .pre .sized), head e .loop .inv .1, part-room e (m .if8 .left)))
+    (λ c κs. let m = c .before .before .before .before .before .before .before in
+    omega (arith, fits (f m) (m .if8 .left), c .before .before .out4 .given .1))
+    (λ c κs. tt)
+    (λ c. let e = f (c .before .before .before .before .before .before .before .before .before .before .before) in omega (arith, counts-on e))
+    (λ c. shorter (f (c .before .before .before .before .before .before .before .before .before .before .before)))
     loop-again-3
     (λ c κs. tt)
-    (λ c. same (c .before .before .loop .inv))
-    returns-4)
+    (λ c. same (c .before .before .loop .inv .0))
+    returns-7)

@@ -1,0 +1,7 @@
+-- `quiet`: the arm record by the answer and the arguments.
+use borrow.Author.Needs.{needs}
+use Rattle.packetstep.proofs.quiet.Statement.{statement}
+use Rattle.packetstep.proofs.quiet.Tie as tie
+
+pub quiet-spec : {M : Type 1} → statement M
+quiet-spec = tie.close (tie.spec (λ c κs. search needs) (λ c. rw (c .after-packet .ensures)))

@@ -1,0 +1,214 @@
+-- Laws of what a packet step hands back: each way of an own command, and each way of a packet.
+use mathlib.Core.Path.{_≡_, refl, sym, ap, _∙_}
+use mathlib.Core.Bool.{Bool, true, false, cond, not, _&&_, _||_}
+use mathlib.Core.List.{List, map}
+use Prim.Native.Nat.{ℕ, _+_, _-_, _<_, _≤_}
+use native.Mathlib.Omega.{arith}
+use lib.Dec.{eqb, ltb}
+use lib.ListN.{length, getD, set, take}
+use lib.Seq.{length-take-le}
+use borrow.Author.Tests.{eq-eqb, ne-eqb, leb-true, le-leb, lt-leb}
+use Rattle.wire.specs.Check.{check}
+use Rattle.packetrules.specs.Layout.{commandId}
+use Rattle.packetrules.specs.Judge.{refusalOf, argumentsOf}
+use Rattle.packetrules.specs.Outcome.{Outcome, BadForm, not-version-0, not-telecommand, not-secondary, not-xor-0, below-6, not-whole, bad-form, no-room, too-many, taken}
+use Rattle.packetrules.specs.Laws.{outcome}
+use Rattle.state.specs.declared.types.Config.{Config}
+use Rattle.state.specs.declared.types.Run.{Run}
+use Rattle.state.specs.declared.types.Arm.{Arm}
+use Rattle.state.specs.declared.types.Counts.{Counts}
+use Rattle.state.specs.Tables.{tablesOf}
+use Rattle.state.specs.Rules.{member}
+use Rattle.state.specs.Lookup.{placeIn, Column}
+use Rattle.state.specs.LookupLaws.{is-member, no-member}
+use Rattle.state.specs.ArrayLaws.{routed-is, fault-ids-are}
+use Rattle.steprules.specs.declared.types.Moved.{Moved}
+use Rattle.arming.specs.Arming.{armAfter}
+use Rattle.counters.specs.Counters.{noCounts, accepted, rejection, packetCounts, rejectedCounts, movedCounts}
+use Rattle.dispatch.specs.Dispatch.{for10, destOf, sent, over, commandBytes}
+use Rattle.dispatch.specs.DispatchLaws.{sent-not, sent-10}
+use Rattle.faultstates.specs.FaultStates.{nextState, clearAll}
+use Rattle.answers.specs.Own.{ownNumber, argsWanted, onRow, faultArg}
+use Rattle.answers.specs.Answers.{blocked, ownAnswer, routeAnswer, answerFor}
+use Rattle.answers.specs.OwnLaws.{own-31, own-32, own-row, own-arm, own-other, own-not-10, row-range}
+use Rattle.answers.specs.AnswerLaws.{answer-30, answer-own, answer-route, Lent, route-none, route-found, route-dest}
+use Rattle.steprules.specs.Step.{acceptedStep, rejectedStep, packetStep, packetOutput}
+use Rattle.steprules.specs.StateLaws.{statesOn, states-long, states-same, states-row, states-clear, states-rest}
+use Rattle.steprules.specs.StepLaws.{accepted-is, packet-rejected, packet-accepted}
+use Rattle.steprules.specs.Moved.{movedBy, quietly, rejectedBy, OwnMoves, leftBy, PacketMoves}
+
+-- ---- an answer that sends nothing on
+
+quiet-is : (n k id : ℕ) (args : List ℕ) (dest : ℕ) (reset : Bool) → (n ≡ 10 → ⊥) → reset ≡ (eqb n 12 && eqb k 1) → quietly n id args reset ≡ movedBy n k id args dest
+quiet-is n k id args dest reset a e = simp (ne-eqb n 10 a, e)
+
+-- ---- an own command
+
+module _ (ids : List ℕ) (k id : ℕ) (args ss : List ℕ) where
+  -- an answer that changes no state
+  still : (n : ℕ) → n ≡ ownAnswer ids k args → (n ≡ 12 → ⊥) → OwnMoves ids k id args ss (quietly n id args false) ss
+  still n e h =
+      record {
+        moved =
+            rw e
+            (quiet-is (ownAnswer ids k args) k id args 0 false
+            (λ z. let q : _≡_ {A = Bool} true false = sym (eq-eqb _ 10 z) ∙ own-not-10 ids k args in let y : _≡_ {A = ℕ} 0 1 = cc in omega arith)
+            (rw (ne-eqb (ownAnswer ids k args) 12 (λ z. h (e ∙ z)))));
+        states = states-same ids (ownAnswer ids k args) k args ss (λ z. h (e ∙ z));
+      }
+
+  pub own-moves-31 : (length args ≡ argsWanted k → ⊥) → OwnMoves ids k id args ss (quietly 31 id args false) ss
+  own-moves-31 h = still 31 (own-31 ids k args h) (λ e. omega arith)
+
+  module _ (e : length args ≡ argsWanted k) where
+    pub own-moves-32 : onRow k ≡ true → member (faultArg args) ids ≡ false → OwnMoves ids k id args ss (quietly 32 id args false) ss
+    own-moves-32 r h = still 32 (own-32 ids k args e r h) (λ e. omega arith)
+
+    pub own-moves-arm : onRow k ≡ false → k ≡ 0 → OwnMoves ids k id args ss (quietly 11 id args false) ss
+    own-moves-arm r z = still 11 (own-arm ids k args e r z) (λ e. omega arith)
+
+    -- 12
+    done : (reset : Bool) (left : List ℕ) → 12 ≡ ownAnswer ids k args → reset ≡ eqb k 1 → left ≡ statesOn ids 12 k args ss → OwnMoves ids k id args ss (quietly 12 id args reset) left
+    done reset left n q s =
+        record {
+          moved = rw (← n) (quiet-is 12 k id args 0 reset (λ e. omega arith) q);
+          states = rw (← n) s;
+        }
+
+    pub own-moves-reset : onRow k ≡ false → k ≡ 1 → OwnMoves ids k id args ss (quietly 12 id args true) ss
+    own-moves-reset r z =
+        done true ss (own-other ids k args e r (λ q. omega arith)) (sym (eq-eqb k 1 z)) (states-rest ids 12 k args ss refl r (λ q. omega arith))
+
+    pub own-moves-clear : onRow k ≡ false → k ≡ 7 → OwnMoves ids k id args ss (quietly 12 id args false) (clearAll ss)
+    own-moves-clear r z =
+        done false (clearAll ss) (own-other ids k args e r (λ q. omega arith)) (sym (ne-eqb k 1 (λ q. omega arith))) (states-clear ids 12 k args ss refl r z)
+
+    pub own-moves-rest : onRow k ≡ false → (k ≡ 0 → ⊥) × (k ≡ 1 → ⊥) × (k ≡ 7 → ⊥) → OwnMoves ids k id args ss (quietly 12 id args false) ss
+    own-moves-rest r (a, b, c) = done false ss (own-other ids k args e r a) (sym (ne-eqb k 1 b)) (states-rest ids 12 k args ss refl r c)
+
+    pub own-moves-row : (place v : ℕ) → onRow k ≡ true → member (faultArg args) ids ≡ true → place ≡ placeIn (faultArg args) ids → (place < length ids) × (length ids ≤ length ss) → v ≡ nextState (getD ss place 0) (k - 4) → OwnMoves ids k id args ss (quietly 12 id args false) (set ss place v)
+    own-moves-row place v r m q w x =
+        done false (set ss place v) (own-row ids k args e r m) (sym (ne-eqb k 1 (λ z. omega (arith, row-range k r)))) (states-row ids 12 k args ss refl place v (faultArg args) r refl q w x)
+
+-- ---- the counters
+
+counts-accepted : (n k : ℕ) (c : Counts) → rejection n ≡ false → movedCounts n (eqb n 12 && eqb k 1) c ≡ packetCounts n k c
+unfolding movedCounts packetCounts
+counts-accepted n k c h = go (eqb n 12) refl
+  where
+    go : (b : Bool) → eqb n 12 ≡ b → cond (rejection n) (rejectedCounts c) (cond (eqb n 12 && (eqb n 12 && eqb k 1)) noCounts (accepted n c)) ≡ cond (eqb n 12 && eqb k 1) noCounts (accepted n c)
+    go true e = rw (h, e) refl
+    go false e = rw (h, e) refl
+
+counts-rejected : (n : ℕ) (c : Counts) → rejection n ≡ true → movedCounts n false c ≡ rejectedCounts c
+unfolding movedCounts
+counts-rejected n c h = rw h
+
+no-rejection : (routed protected ids : List ℕ) (armed : Bool) (id k : ℕ) (args : List ℕ) → rejection (answerFor routed protected ids armed id k args) ≡ false
+unfolding answerFor ownAnswer routeAnswer
+no-rejection routed protected ids armed id k args =
+    go (blocked protected armed id) (ltb k 8) (eqb (length args) (argsWanted k)) (not (onRow k) || member (faultArg args) ids) (eqb k 0) (member id routed)
+  where
+    go : (a l b d e m : Bool) → rejection (check (not a) 30 (cond l (check b 31 (check d 32 (cond e 11 12))) (check m 33 10))) ≡ false
+    go true l b d e m = refl
+    go false true false d e m = refl
+    go false true true false e m = refl
+    go false true true true true m = refl
+    go false true true true false m = refl
+    go false false b d e true = refl
+    go false false b d e false = refl
+
+bad-rejects : {s : List ℕ} {n : ℕ} → BadForm s n → rejection n ≡ true
+bad-rejects (not-version-0 h) = refl
+bad-rejects (not-telecommand v h) = refl
+bad-rejects (not-secondary v t h) = refl
+bad-rejects (not-xor-0 v t f h) = refl
+
+rejects : {s : List ℕ} {n : ℕ} → Outcome s n → (n ≡ 0 → ⊥) → rejection n ≡ true
+rejects (below-6 h) z = refl
+rejects (not-whole a h) z = refl
+rejects (bad-form a b) z = bad-rejects b
+rejects (no-room a f h) z = refl
+rejects (too-many a f r h) z = refl
+rejects (taken a) z = absurd (z refl)
+
+not-sent : {n : ℕ} → rejection n ≡ true → n ≡ 10 → ⊥
+not-sent {n} h e = let z : rejection 10 ≡ true = rw e at h in let q : _≡_ {A = ℕ} 0 1 = cc in omega arith
+
+-- ---- a packet, with the columns lent
+
+module _ (c : Config) (l : Lent (c .numbers) (c .routeids) (c .dests) (c .protected) (c .faultids)) (arm : Arm) (before p out : List ℕ) where
+  abbrev routed-ids : List ℕ
+  routed-ids = take (c .numbers .nroutes) (c .routeids)
+
+  abbrev protected-ids : List ℕ
+  protected-ids = take (c .numbers .nprotected) (c .protected)
+
+  abbrev fault-ids : List ℕ
+  fault-ids = take (c .numbers .nrows) (c .faultids)
+
+  abbrev run : Counts → Run
+  run counts = record { arm = arm; counts = counts; states = before }
+
+  pub moves-rejected : (n : ℕ) → (n ≡ refusalOf p) × (n ≡ 0 → ⊥) → PacketMoves c arm before p out (rejectedBy arm n) before out
+  unfolding rejectedStep packetOutput
+  moves-rejected n (e, h) =
+      let y : rejection n ≡ true = rejects (rw (← e) at (outcome p)) h in
+      record {
+        step = λ counts. rw (counts-rejected n counts y) (packet-rejected (tablesOf c) (run counts) p n (e, h));
+        output = sent-not n (c .numbers .ground) (commandId p) (argumentsOf p) out (not-sent y);
+        long = refl;
+      }
+
+  module _ {id k : ℕ} {args : List ℕ} (z : refusalOf p ≡ 0) (ei : id ≡ commandId p) (ea : args ≡ argumentsOf p) (ek : k ≡ ownNumber (c .numbers .base) id) where
+    moves-accepted : {n : ℕ} {r : Moved} {after left : List ℕ}
+        → n ≡ answerFor routed-ids protected-ids fault-ids (arm .armed) id k args
+        → r ≡ movedBy n k id args (destOf id (tablesOf c .routes))
+        → after ≡ statesOn fault-ids n k args before
+        → left ≡ sent n (c .numbers .ground) id args out
+        → PacketMoves c arm before p out r after left
+    unfolding packetOutput
+    moves-accepted {n} {r} {after} {left} en er es eo =
+        let y : rejection n ≡ false = rw en (no-rejection routed-ids protected-ids fault-ids (arm .armed) id k args) in
+        let t = l .route-ids in
+        let f = l .fault-ids in
+        record {
+          step = λ counts.
+              rw er
+              (accepted-is (tablesOf c) (run counts) id args (routed-is c (omega (arith, t .long, t .within))) (fault-ids-are c (omega (arith, f .long, f .within))) ek en refl (counts-accepted n k counts y) es refl refl
+              ∙ packet-accepted (tablesOf c) (run counts) p id args z ei ea);
+          output = eo ∙ rw (er, ei, ea);
+          long = rw es (states-long fault-ids n k args before);
+        }
+
+    -- an answer that sends nothing on, and changes no state
+    moves-quiet : (n : ℕ) → (n ≡ 10 → ⊥) × (n ≡ 12 → ⊥)
+        → n ≡ answerFor routed-ids protected-ids fault-ids (arm .armed) id k args
+        → PacketMoves c arm before p out (quietly n id args false) before out
+    moves-quiet n (a, b) en =
+        moves-accepted en
+        (quiet-is n k id args (destOf id (tablesOf c .routes)) false a (rw (ne-eqb n 12 b)))
+        (states-same fault-ids n k args before b)
+        (sent-not n (c .numbers .ground) id args out a)
+
+    pub moves-30 : blocked protected-ids (arm .armed) id ≡ true → PacketMoves c arm before p out (quietly 30 id args false) before out
+    moves-30 b = moves-quiet 30 (λ e. omega arith, λ e. omega arith) (answer-30 _ _ _ _ _ _ _ b)
+
+    module _ (b : blocked protected-ids (arm .armed) id ≡ false) where
+      pub moves-own : {r : Moved} {after : List ℕ} → k < 8 → OwnMoves fault-ids k id args before r after → PacketMoves c arm before p out r after out
+      moves-own h o =
+          let t : eqb (ownAnswer fault-ids k args) 10 ≡ false = own-not-10 fault-ids k args in
+          moves-accepted (answer-own _ _ _ _ _ _ _ b h) (o .moved ∙ rw t) (o .states) (sent-not _ (c .numbers .ground) id args out (λ e. let q : _≡_ {A = Bool} true false = sym (eq-eqb _ 10 e) ∙ t in let y : _≡_ {A = ℕ} 0 1 = cc in omega arith))
+
+      module _ (h : 8 ≤ k) {at : ℕ} (f : at ≡ placeIn id routed-ids) where
+        pub moves-33 : c .numbers .nroutes ≤ at → PacketMoves c arm before p out (quietly 33 id args false) before out
+        moves-33 g =
+            moves-quiet 33 (λ e. omega arith, λ e. omega arith) (route-none (l .route-ids) id at f g ∙ answer-route _ _ _ _ _ _ _ b h)
+
+        pub moves-10 : (written : ℕ) (left : List ℕ) → at < c .numbers .nroutes → (written ≡ 5 + length args) × (left ≡ over (commandBytes (c .numbers .ground) id args) out)
+            → PacketMoves c arm before p out (record { arm = armAfter 10 args; reset = false; answer = record { answer = 10; id = id; dest = getD (c .dests) at 0; written = written } }) before left
+        moves-10 written left g (w, o) =
+            moves-accepted {n = 10} (route-found (l .route-ids) id at f g ∙ answer-route _ _ _ _ _ _ _ b h)
+            (rw (w, route-dest (l .route-ids) id at f (c .dests) g))
+            (states-same fault-ids 10 k args before (λ e. omega arith))
+            (o ∙ sent-10 10 (c .numbers .ground) id args out refl)
