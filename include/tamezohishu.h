@@ -22,15 +22,16 @@ extern "C" {
 /* ---- which header this is ---- */
 
 /*
- * One number that moves with every change of a struct or a signature here; compare at the start. A program that was compiled
- * with another header than its archive's reads and writes the wrong places, and nothing else would tell.
+ * One number that moves with every change of a struct, a signature or the meaning of a number here; compare at the start. A
+ * program that was compiled with another header than its archive's reads and writes the wrong places, or takes one number for
+ * another, and nothing else would tell. 2: tz_resume and tz_replay stop with numbers of their own (60 to 63).
  */
-#define TZ_ABI 1
+#define TZ_ABI 2
 
 /* The number of the archive. */
 uint32_t tz_abi(void);
 
-/* Whether the archive has the structs and signatures of this header: 1 or 0. */
+/* Whether the archive has the structs, signatures and numbers of this header: 1 or 0. */
 static inline int tz_same_abi(void) {
     return tz_abi() == TZ_ABI;
 }
@@ -82,6 +83,15 @@ enum {
     TZ_TOO_MANY_ARGS = 42,      /* more than 255 arguments */
     TZ_TOO_MANY_PADS = 43,      /* more than 127 pads */
     TZ_OUTPUT_TOO_SMALL = 44    /* output too small */
+};
+
+/* why tz_resume and tz_replay stopped: 0, TZ_BAD_STATE (tz_resume only), or one of these, which mean nothing else */
+enum {
+    TZ_STOP_END = 0,            /* all of the recording was read; of tz_replay where `load` is 0 */
+    TZ_STOP_CUT = 60,           /* a record is cut */
+    TZ_STOP_KIND = 61,          /* a record is of another kind than 16, 17 and 18 */
+    TZ_STOP_LENGTH = 62,        /* a record has a wrong length for its kind */
+    TZ_STOP_FULL = 63           /* the output is full: an event was left, and less than 266 bytes for it */
 };
 
 enum {
@@ -144,7 +154,9 @@ typedef struct tz_counts {
 
 /*
  * The run: what steps change. `armed` is 0 or 1. Any other number breaks the state's rules: such a call answers 20 and
- * leaves the run as it was. A run from elsewhere, or one that was damaged, is judged by each step in the same way.
+ * leaves the run as it was. A run from elsewhere is judged by each step in the same way: 20 where a rule breaks, and nowhere
+ * else. So 20 is no test for damage: a run whose `armed` was flipped to 1 while no ticks remain, whose counters are others, or
+ * that belongs to another configuration and happens to fit, keeps the rules.
  */
 typedef struct tz_run {
     uint8_t armed;
@@ -191,9 +203,10 @@ typedef struct tz_answer {
 } tz_answer;
 
 /*
- * A piece of a recording. `stop` is 0 where all of it was read, 1, 2 or 3 at the first bad record (cut, of another kind, of
- * wrong length), 20 where the state breaks its rules, 21 where an event was left and less than 266 bytes of the output. The
- * state is judged first, even for an empty recording; then each record before the room for its event.
+ * A piece of a recording. `stop` is 0 where all of it was read, 60, 61 or 62 at the first bad record (cut, of another kind, of
+ * wrong length), 20 where the state breaks its rules, 63 where an event was left and less than 266 bytes of the output. The
+ * state is judged first, even for an empty recording; then each record before the room for its event. What was answered
+ * before a stop stands; 20 says that nothing was read.
  */
 typedef struct tz_piece {
     uint8_t stop;

@@ -1,5 +1,5 @@
 # The number of the C boundary: header, Rust crate and archive say the same one, and what the header says is what tests/abi has
-# for it. So a struct or a signature can't change while its number stays. Comments and blanks may change.
+# for it. So a struct, a signature or a number can't change while its number stays. Comments and blanks may change.
 set -eu
 cd "$(dirname "$0")/.."
 header=include/tamezohishu.h crate=rust/tamezohishu/src/ffi.rs calls=crates/export/src/calls.rt spec=crates/boundary/specs/Boundary.antt

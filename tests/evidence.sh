@@ -1,5 +1,7 @@
 # The map of evidence can't rot: every crate, file, function, definition, theorem and must-fail edit that docs/EVIDENCE.md names
-# exists, and every public function, every must-fail edit and every number of document 01's two tables and of the builder stands in it.
+# exists; the row of an edit names what the edit changes, and the row of a theorem a definition that the theorem's file has; and
+# every public function, every must-fail edit and every number of document 01's two tables, of the builder and of a replay's
+# stops stands in it. So does each point that the independent reading settled, in docs/DECISIONS.md.
 set -eu
 cd "$(dirname "$0")/.."
 map=docs/EVIDENCE.md
@@ -50,8 +52,21 @@ done >"$room/missing"
 while IFS= read -r line; do bad "the public function $line is not in the map"; done <"$room/missing"
 
 # each answer and each refusal has its line: "| 10 ..", "22 to 29", "1 .. 7"
-for n in 10 11 12 13 14 15 20 21 22 23 24 25 26 27 28 29 30 31 32 33 34 40 41 42 43 44; do
+for n in 10 11 12 13 14 15 20 21 22 23 24 25 26 27 28 29 30 31 32 33 34 40 41 42 43 44 60 61 62 63; do
     grep -qE "^\\|.*(^|[^0-9])$n([^0-9]|\$)" "$map" || bad "answer $n is not in the map"
+done
+
+# each edit stands beside what it changes, and each theorem over a definition of its row
+python3 tests/evidence_rows.py >"$room/rows" || failed=1
+sed 's/^/evidence: /' "$room/rows"
+
+# each point that the independent reading had to settle stands among the decisions, with a definition that exists
+section=$(sed -n '/^## Where the papers are silent/,/^## Repository/p' docs/DECISIONS.md)
+for n in $(sed -nE 's/^([0-9]+)\. .*/\1/p' rust/reading/POINTS.md); do
+    printf '%s\n' "$section" | grep -qE "^\\| ([0-9]+, )*$n(, [0-9]+)* \\|" || bad "point $n of the reading is not in docs/DECISIONS.md"
+done
+for word in $(printf '%s\n' "$section" | sed -nE 's/^\| [0-9].*\| ([^|]*) \|$/\1/p' | grep -oE '`[A-Za-z]+`' | tr -d '`'); do
+    known "$word" || [ "$word" = stdout ] || bad "docs/DECISIONS.md names $word, and nothing has that name"
 done
 [ $failed = 0 ] && echo "evidence: $(wc -l <"$room/words") names, all there; nothing is missing from the map"
 exit $failed

@@ -1,5 +1,5 @@
-# What README and FORMATS say that can be run or counted: the example written in hex, the packets that are built, and how much a
-# reviewer has to read.
+# What README and FORMATS say that can be run or counted: the example written in hex, the packets that are built, which files a
+# reviewer has to read and how much that is, and how many public functions are internal.
 set -eu
 cd "$(dirname "$0")/.."
 room=$(mktemp -d)
@@ -32,13 +32,13 @@ while IFS='|' read -r _ apid count id args pads wanted _; do
         --pads "$(plain "$pads")" 2>/dev/null) || true
     case $(printf '%s' "$wanted" | tr -d '`') in *"${said#0 }"*) rows=$((rows + 1)) ;; *) bad "docs/FORMATS.md has$wanted for $said" ;; esac
 done <<ROWS
-$(awk '/^PAD from its fields/ { shown = 1 } shown && /^\| [0-9]/' docs/FORMATS.md)
+$(awk '/^## / { shown = 0 } /^PAD from its fields/ { shown = 1 } shown && /^\| [0-9]/' docs/FORMATS.md)
 ROWS
 [ "$rows" = 3 ] || bad "docs/FORMATS.md has $rows packets from their fields and not 3"
 
-# a refusal of the builder has the same words in the Rust crate, in the C header and on both pages
-sed -nE 's/^ *[A-Za-z]+ = (4[0-9]): "(.*)",$/\1 \2/p' rust/tamezohishu/src/numbers.rs >"$room/words"
-[ "$(cut -d' ' -f1 "$room/words" | tr '\n' ' ')" = "40 41 42 43 44 " ] || bad "the Rust crate does not name 40 to 44"
+# a refusal of the builder and a stop of a replay have the same words in the Rust crate, in the C header and on both pages
+sed -nE 's/^ *[A-Za-z]+ = ([46][0-9]): "(.*)",$/\1 \2/p' rust/tamezohishu/src/numbers.rs >"$room/words"
+[ "$(cut -d' ' -f1 "$room/words" | tr '\n' ' ')" = "40 41 42 43 44 60 61 62 63 " ] || bad "the Rust crate does not name 40 to 44 and 60 to 63"
 while read -r number words; do
     grep -qE "= $number,? +/\* $words \*/" include/tamezohishu.h || bad "the C header has other words for $number than: $words"
     for page in README.md docs/FORMATS.md; do
@@ -46,10 +46,47 @@ while read -r number words; do
     done
 done <"$room/words"
 
-# the files to believe: their number, their lines, and those of them that are neither import nor comment nor empty
+# files_in TEXT: the files under crates/ that a text names; one without its folder stands in the folder before it
+files_in() {
+    printf '%s\n' "$1" | grep -oE '`[A-Za-z/]+\.(antt|rt)`' | tr -d '`' | grep -v '^crates/' |
+        awk -F/ '{ if (NF > 1) folder = $1 "/" $2; print "crates/" folder "/" $NF }'
+}
+
+# the files to believe: those that the contract of `replay` reaches, and no others
 sentence=$(grep '^A reviewer who reads these' README.md)
-files=$(printf '%s\n' "$sentence" | sed 's/ The judge.s rules are declared once more.*//' | grep -oE '`[A-Za-z/]+\.antt`' | tr -d '`' |
-    awk -F/ '{ if (NF > 1) folder = $1 "/" $2; print "crates/" folder "/" $NF }')
+files_in "$sentence" | sort >"$room/named"
+bin/reached crates/replay/src/replay.rt replay | cut -d' ' -f1 | sort >"$room/reached"
+for file in $(comm -13 "$room/named" "$room/reached"); do bad "the contract of replay reaches $file, which is not among the files to believe"; done
+for file in $(comm -23 "$room/named" "$room/reached"); do bad "$file is among the files to believe, and the contract of replay does not reach it"; done
+
+# and behind them, for the other entry points: what their contracts reach
+files_in "$(sed -n '/^## Where to read/,/^`docs.EVIDENCE/p' README.md)" | sort -u >"$room/named"
+for source in crates/*/src/*.rt; do
+    case $source in crates/export/* | crates/replay/* | crates/steps/* | crates/statecheck/* | crates/image/* | crates/packet/* | crates/packetheader/* | crates/builder/*) ;; *) continue ;; esac
+    for name in $(awk '/internal:/ { inner = 1 } /^pub .*fn / && !inner { sub(/.*fn /, ""); sub(/[^a-z_0-9].*/, ""); print } /^}/ { inner = 0 }' "$source"); do
+        bin/reached "$source" "$name" >"$room/reached" || echo "what $name of $source reaches can't be followed"
+        cut -d' ' -f1 "$room/reached" | grep 'antt$' | sort | comm -13 "$room/named" - | sed "s,.*,$name of $source reaches & and README does not name it,"
+    done
+done >"$room/missing"
+while IFS= read -r line; do bad "$line"; done <"$room/missing"
+
+# the public functions of the libraries: how many, and how many of them ask for something; these, and no others, are marked
+for source in crates/*/src/*.rt; do
+    [ -e "$(dirname "$source")/main.rt" ] || awk -v file="$source" '
+        /^\/\/ internal:/ { marked = 1 }
+        /^(pub )?(extern "C" )?fn / { public = /^pub/; head = 1; asks = 0; name = $0; sub(/.*fn /, "", name); sub(/[^a-z_0-9].*/, "", name) }
+        head && /^    requires/ { asks = 1 }
+        head && /^[{]|^[^ ].* [{]$/ { if (public) print (asks ? "internal" : "open"), (marked == asks ? "" : name " of " file); head = 0; marked = 0 }' "$source"
+done >"$room/functions"
+while read -r _ wrong; do
+    [ -z "$wrong" ] || bad "$wrong has a requires and no mark, or a mark and no requires"
+done <"$room/functions"
+inner=$(grep -c '^internal' "$room/functions") all=$(wc -l <"$room/functions")
+grep -qF "Of the $all public functions of the libraries $inner are no entry points" README.md || bad "there are $all public functions, $inner of them internal"
+grep -qF "The other $((all - inner)) ask for nothing." README.md || bad "$((all - inner)) public functions ask for nothing"
+
+# how much that is: the number of files, their lines, and those of them that are neither import nor comment nor empty
+files=$(files_in "$sentence" | grep 'antt$')
 # shellcheck disable=SC2086
 said="$(printf '%s\n' "$files" | wc -l) files, $(cat $files | wc -l | sed -E 's/^([0-9]+)([0-9]{3})$/\1,\2/') lines of which $(cat $files | grep -cvE '^use |^ *$|^ *--') are definitions"
 case $sentence in *"$said"*) ;; *) bad "the files to believe are $said" ;; esac

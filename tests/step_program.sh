@@ -25,8 +25,18 @@ bad" </dev/null
 same "an empty configuration" "$room/empty" "5 0
 bad" </dev/null
 same "no records" "$c" "0 0" </dev/null
-{ cat "$c"; head -c 70000 /dev/zero; } >"$room/long"
-same "a configuration longer than 65,536 bytes" "$room/long" "2 42
+# The image is the first 65,536 bytes of its file. Behind C's 42 bytes a route whose body is far too long: whole it is refused
+# for its length (3), and where the file is cut it passes the image's end, which is asked before (1).
+# route FILE LENGTH LOW HIGH: C and a record of kind 2 with so many bytes
+route() { { cat "$c"; bytes "\\$3\\$4\\0002\\0000"; head -c "$2" /dev/zero; } >"$1"; }
+route "$room/long" 65535 0377 0377
+same "a configuration of 65,581 bytes, cut behind 65,536" "$room/long" "1 42
+bad" </dev/null
+route "$room/past" 65491 0323 0377
+same "a configuration of 65,537 bytes, cut behind 65,536" "$room/past" "1 42
+bad" </dev/null
+route "$room/most" 65490 0322 0377
+same "a configuration of 65,536 bytes, not cut" "$room/most" "3 42
 bad" </dev/null
 bytes '\0000\0000\0021\0000' | same "a tick" "$c" "0 0
 14 0 0 0"

@@ -188,7 +188,7 @@ int main(void) {
     /* in two pieces, the second from where the first stopped */
     again = l.run;
     tz_piece first = tz_resume(&l.config, &again, recording, 40, replies, sizeof replies);
-    check("a first piece, cut in its fourth record", first.stop == TZ_PAST_END && first.read == 33 && first.count == 3
+    check("a first piece, cut in its fourth record", first.stop == TZ_STOP_CUT && first.read == 33 && first.count == 3
         && first.wrote == 18 && again.armed == 1 && again.ticks == 1 && again.counts.a == 2 && again.counts.p == 1);
     tz_piece second = tz_resume(&l.config, &again, recording + first.read, end - first.read, replies, sizeof replies);
     check("the recording in two pieces", first.count + second.count == 12 && first.wrote + second.wrote == r.wrote
@@ -196,8 +196,19 @@ int main(void) {
     memset(replies, 0x5A, sizeof replies);
     again = l.run;
     first = tz_resume(&l.config, &again, recording, end, replies, TZ_REPLY - 1);
-    check("too little room for one event", first.stop == TZ_NO_ROOM && first.read == 0 && first.count == 0 && first.wrote == 0
+    check("too little room for one event", first.stop == TZ_STOP_FULL && first.read == 0 && first.count == 0 && first.wrote == 0
         && same_run(&again, &l.run) && still(replies, sizeof replies, 0x5A));
+    /* a tick, and behind it a record of another kind, a tick with a body, a fault of one byte */
+    static const uint8_t bad_records[3][9] = {{0, 0, 17, 0, 0, 0, 19, 0, 0}, {0, 0, 17, 0, 1, 0, 17, 0, 0}, {0, 0, 17, 0, 1, 0, 18, 0, 7}};
+    for (size_t k = 0; k < 3; k++) {
+        uint8_t stop = k == 0 ? TZ_STOP_KIND : TZ_STOP_LENGTH;
+        memset(replies, 0x5A, sizeof replies);
+        again = l.run;
+        first = tz_resume(&l.config, &again, bad_records[k], k == 0 ? 8 : 9, replies, sizeof replies);
+        check("a bad record behind a tick", first.stop == stop && first.read == 4 && first.count == 1 && first.wrote == 6
+            && replies[0] == TZ_TICK && still(replies + 6, sizeof replies - 6, 0x5A));
+    }
+    memset(replies, 0x5A, sizeof replies);
     r = tz_replay(c, 41, recording, end, replies, sizeof replies);
     check("a refused image", r.load == TZ_PAST_END && r.offset == 30 && r.stop == 0 && r.read == 0 && r.count == 0
         && r.wrote == 0 && still(replies, sizeof replies, 0x5A));

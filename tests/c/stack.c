@@ -349,7 +349,7 @@ static void recordings(void) {
     for (room = 0; room < 4 * TZ_REPLY; room += 37) {
         run = state.run;
         measure(RESUME);
-        is("no more room", piece.stop, TZ_NO_ROOM);
+        is("no more room", piece.stop, TZ_STOP_FULL);
         measure(REPLAY);
     }
     room = sizeof out;

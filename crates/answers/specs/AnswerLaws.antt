@@ -1,12 +1,12 @@
 -- Laws of the answers: each way to one, and what the lent tables must be.
 use mathlib.Core.Path.{_≡_, refl, sym, ap, _∙_}
 use mathlib.Core.Bool.{Bool, true, false}
+use mathlib.Core.Option.{Option, none, some}
 use mathlib.Core.List.{List, map}
 use Prim.Native.Nat.{ℕ, _<_, _≤_}
 use native.Mathlib.Omega.{arith}
-use lib.Dec.{ltb}
 use lib.ListN.{length, getD, take}
-use borrow.Author.Tests.{eq-eqb, ne-eqb, lt-ltb, le-ltb}
+use borrow.Author.Tests.{eq-eqb, ne-eqb}
 use Rattle.state.specs.declared.types.Numbers.{Numbers}
 use Rattle.state.specs.Tables.{Route, FaultRow, routeId, faultId, listed, routeAt}
 use Rattle.state.specs.Rules.{member}
@@ -14,6 +14,7 @@ use Rattle.state.specs.Lookup.{placeIn, Column}
 use Rattle.state.specs.LookupLaws.{is-member, no-member}
 use Rattle.state.specs.ArrayLaws.{map-listed, column-is}
 use Rattle.faultstates.specs.FaultStates.{enabled, stateFor}
+use Rattle.answers.specs.declared.own.Own.{Own}
 use Rattle.answers.specs.Answers.{blocked, ownAnswer, routeAnswer, answerFor, faultAnswer}
 use Rattle.dispatch.specs.Dispatch.{for10, destOf}
 use Rattle.answers.specs.OwnLaws.{own-not-10}
@@ -61,21 +62,21 @@ routed-dest ids id n dest x m e d = d ∙ rw (e, m)
 
 -- ---- the answer to an accepted packet
 
-module _ (routed protected faultIds : List ℕ) (armed : Bool) (id k : ℕ) (args : List ℕ) where
-  pub answer-30 : blocked protected armed id ≡ true → 30 ≡ answerFor routed protected faultIds armed id k args
+module _ (routed protected faultIds : List ℕ) (armed : Bool) (id : ℕ) (args : List ℕ) where
+  pub answer-30 : (k : Option Own) → blocked protected armed id ≡ true → 30 ≡ answerFor routed protected faultIds armed id k args
   unfolding answerFor
-  answer-30 b = simp b
+  answer-30 k b = simp b
 
-  pub answer-own : blocked protected armed id ≡ false → k < 8 → ownAnswer faultIds k args ≡ answerFor routed protected faultIds armed id k args
+  pub answer-own : {o : Option Own} (k : Own) → o ≡ some k → blocked protected armed id ≡ false → ownAnswer faultIds k args ≡ answerFor routed protected faultIds armed id o args
   unfolding answerFor
-  answer-own b h = simp (b, lt-ltb k 8 h)
+  answer-own k q b = rw q (simp b)
 
-  pub answer-route : blocked protected armed id ≡ false → 8 ≤ k → routeAnswer routed id ≡ answerFor routed protected faultIds armed id k args
+  pub answer-route : {o : Option Own} → o ≡ none → blocked protected armed id ≡ false → routeAnswer routed id ≡ answerFor routed protected faultIds armed id o args
   unfolding answerFor
-  answer-route b h = simp (b, le-ltb k 8 h)
+  answer-route q b = rw q (simp b)
 
 -- an own command has no destination
-pub own-dest : (faultIds : List ℕ) (k : ℕ) (args : List ℕ) (n x : ℕ) → n ≡ ownAnswer faultIds k args → 0 ≡ for10 n x
+pub own-dest : (faultIds : List ℕ) (k : Own) (args : List ℕ) (n x : ℕ) → n ≡ ownAnswer faultIds k args → 0 ≡ for10 n x
 own-dest faultIds k args n x e = rw (e, own-not-10 faultIds k args)
 
 -- ---- a fault

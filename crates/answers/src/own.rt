@@ -1,70 +1,44 @@
-// The path's own commands: which one an id selects, what it takes, and its answer.
+// The path's own commands: which one an id selects, the arguments that it takes, and the fault id in them.
 ghost use mathlib.Core.Path.{_≡_};
-ghost use Rattle.answers.specs.Own.{ownNumber, argsWanted, onRow, faultArg};
+ghost use Rattle.answers.specs.Own.{ownCommand, selectionOf, faultArg};
 
-// An own command: the argument bytes that it takes, and whether it acts on the row of a fault id.
-pub struct Command {
-    pub wanted: usize,
-    pub row: bool,
+// The eight own commands.
+pub enum Own {
+    Arm,
+    ResetCounters,
+    NoOp,
+    NoOpWithArgument,
+    Enable,
+    Disable,
+    Clear,
+    ClearAll,
 }
 
-// The command that an id selects, 0 to 7; 8 where the id is no own id.
-pub fn number(base: u16, id: u16) -> u8
-    ensures { λ r. ⌜ r ≡ ownNumber base id ⌝ }
+// What an id selects: an own command and the argument bytes that it takes, or none.
+pub enum Selection {
+    Command(Own, usize),
+    Nothing,
+}
+
+// The id less own base selects, 0 to 7.
+pub fn selected(base: u16, id: u16) -> Selection
+    ensures { λ r. ⌜ r ≡ selectionOf (ownCommand base id) ⌝ }
 {
-    if !state::rules::is_own(base, id) {
-        return 8;
+    if id < base {
+        return Selection::Nothing;
     }
-    (id - base) as u8
-}
-
-// What the command k takes.
-pub fn selected(k: u8) -> Command
-    ensures { λ r. ⌜ (r .wanted ≡ argsWanted k) × (r .row ≡ onRow k) ⌝ }
-{
-    match k {
-        // arm: the timeout
-        0 => Command {
-            wanted: 1,
-            row: false,
-        },
-        // reset counters
-        1 => Command {
-            wanted: 0,
-            row: false,
-        },
-        // no-op
-        2 => Command {
-            wanted: 0,
-            row: false,
-        },
-        // no-op with argument
-        3 => Command {
-            wanted: 4,
-            row: false,
-        },
-        // enable, disable and clear a fault response: the fault id
-        4 => Command {
-            wanted: 2,
-            row: true,
-        },
-        5 => Command {
-            wanted: 2,
-            row: true,
-        },
-        6 => Command {
-            wanted: 2,
-            row: true,
-        },
-        // clear all
-        7 => Command {
-            wanted: 0,
-            row: false,
-        },
-        _ => Command {
-            wanted: 0,
-            row: false,
-        },
+    match id - base {
+        // the timeout
+        0 => Selection::Command(Own::Arm, 1),
+        1 => Selection::Command(Own::ResetCounters, 0),
+        2 => Selection::Command(Own::NoOp, 0),
+        3 => Selection::Command(Own::NoOpWithArgument, 4),
+        // the fault id
+        4 => Selection::Command(Own::Enable, 2),
+        5 => Selection::Command(Own::Disable, 2),
+        6 => Selection::Command(Own::Clear, 2),
+        7 => Selection::Command(Own::ClearAll, 0),
+        _ => Selection::Nothing,
     }
 }
 

@@ -29,9 +29,9 @@ use Rattle.boundary.specs.declared.types.Loading.{Loading}
 use Rattle.boundary.specs.declared.types.Handed.{Handed}
 use Rattle.boundary.specs.declared.types.Portion.{Portion}
 
--- the number of the structs and signatures that C sees
+-- the number of the structs, signatures and numbers that C sees
 abbrev pub abi : ℕ
-abi = 1
+abi = 2
 
 -- ---- a run, saved and taken back
 

@@ -6,7 +6,7 @@ use native.Mathlib.Omega.{arith}
 use lib.Dec.{eqb}
 use borrow.Author.Tests.{eq-eqb, ne-eqb, le-leb, lt-leb, eqb-false}
 use Rattle.state.specs.declared.types.Counts.{Counts}
-use Rattle.counters.specs.Counters.{up, noCounts, invalidAnswer, rejectedCounts, movedCounts, faultCounts}
+use Rattle.counters.specs.Counters.{up, noCounts, invalidAnswer, packetCounts, rejectedCounts, movedCounts, faultCounts}
 
 -- an accepted packet of which A alone is moved
 abbrev pub acceptedOnly : Counts → Counts
@@ -14,7 +14,7 @@ acceptedOnly c = record { a = up true (c .a); r = c .r; d = c .d; p = c .p; u = 
 
 module _ (n : ℕ) (reset : Bool) (c : Counts) where
   pub counts-10 : n ≡ 10 → record { a = up true (c .a); r = c .r; d = up true (c .d); p = c .p; u = c .u; i = c .i; f = c .f } ≡ movedCounts n reset c
-  unfolding movedCounts
+  unfolding movedCounts packetCounts
   counts-10 e = rw e refl
 
   pub counts-22 : 22 ≤ n → n < 30 → record { a = c .a; r = up true (c .r); d = c .d; p = c .p; u = c .u; i = c .i; f = c .f } ≡ movedCounts n reset c
@@ -23,17 +23,17 @@ module _ (n : ℕ) (reset : Bool) (c : Counts) where
 
   -- below the judge's answers
   pub counts-own : n < 22 → (n ≡ 10 → ⊥) → (n ≡ 12 → ⊥) → acceptedOnly c ≡ movedCounts n reset c
-  unfolding movedCounts
+  unfolding movedCounts packetCounts
   counts-own l t w =
       simp (lt-leb 22 n l, ne-eqb n 12 w, ne-eqb n 10 t, ne-eqb n 30 (λ e. omega arith), ne-eqb n 33 (λ e. omega arith), ne-eqb n 31 (λ e. omega arith), ne-eqb n 32 (λ e. omega arith))
 
   pub counts-30 : n ≡ 30 → record { a = up true (c .a); r = c .r; d = c .d; p = up true (c .p); u = c .u; i = c .i; f = c .f } ≡ movedCounts n reset c
-  unfolding movedCounts
+  unfolding movedCounts packetCounts
   counts-30 e = rw e refl
 
   -- 31 or 32
   pub counts-invalid : 30 < n → n < 33 → record { a = up true (c .a); r = c .r; d = c .d; p = c .p; u = c .u; i = up true (c .i); f = c .f } ≡ movedCounts n reset c
-  unfolding movedCounts
+  unfolding movedCounts packetCounts
   counts-invalid l h =
       let either : invalidAnswer n ≡ true = go (eqb n 31) refl in
       simp (either, le-leb 22 n (omega arith), lt-leb n 29 (omega arith), ne-eqb n 12 (λ e. omega arith), ne-eqb n 10 (λ e. omega arith), ne-eqb n 30 (λ e. omega arith), ne-eqb n 33 (λ e. omega arith))
@@ -43,20 +43,20 @@ module _ (n : ℕ) (reset : Bool) (c : Counts) where
       go false e = rw (e, eq-eqb n 32 (let k = eqb-false n 31 e in omega arith)) refl
 
   pub counts-33 : n ≡ 33 → record { a = up true (c .a); r = c .r; d = c .d; p = c .p; u = up true (c .u); i = c .i; f = c .f } ≡ movedCounts n reset c
-  unfolding movedCounts
+  unfolding movedCounts packetCounts
   counts-33 e = rw e refl
 
   pub counts-high : 33 < n → acceptedOnly c ≡ movedCounts n reset c
-  unfolding movedCounts
+  unfolding movedCounts packetCounts
   counts-high l =
       simp (le-leb 22 n (omega arith), lt-leb n 29 (omega arith), ne-eqb n 12 (λ e. omega arith), ne-eqb n 10 (λ e. omega arith), ne-eqb n 30 (λ e. omega arith), ne-eqb n 33 (λ e. omega arith), ne-eqb n 31 (λ e. omega arith), ne-eqb n 32 (λ e. omega arith))
 
   pub counts-12 : n ≡ 12 → reset ≡ false → acceptedOnly c ≡ movedCounts n reset c
-  unfolding movedCounts
+  unfolding movedCounts packetCounts
   counts-12 e r = rw (e, r) refl
 
   pub counts-reset : n ≡ 12 → reset ≡ true → noCounts ≡ movedCounts n reset c
-  unfolding movedCounts
+  unfolding movedCounts packetCounts
   counts-reset e r = rw (e, r) refl
 
 -- ---- a fault

@@ -29,9 +29,10 @@ accepted n c =
       f = c .f;
     }
 
--- a reset (own command 1, answer 12) leaves all seven at zero, its own count included
-unfoldable pub packetCounts : ℕ → ℕ → Counts → Counts
-packetCounts n k c = cond (eqb n 12 && eqb k 1) noCounts (accepted n c)
+-- a reset that was done (answer 12) leaves all seven at zero, its own count included; whether the packet's id selects it is
+-- told
+unfoldable pub packetCounts : ℕ → Bool → Counts → Counts
+packetCounts n reset c = cond (eqb n 12 && reset) noCounts (accepted n c)
 
 -- a rejected packet
 unfoldable pub rejectedCounts : Counts → Counts
@@ -41,9 +42,9 @@ rejectedCounts c = record { a = c .a; r = up true (c .r); d = c .d; p = c .p; u 
 abbrev pub rejection : ℕ → Bool
 rejection n = leb 22 n && leb n 29
 
--- a packet by its answer alone, rejected or accepted; whether it was own command 1 is told
+-- a packet by its answer alone, rejected or accepted
 unfoldable pub movedCounts : ℕ → Bool → Counts → Counts
-movedCounts n reset c = cond (rejection n) (rejectedCounts c) (cond (eqb n 12 && reset) noCounts (accepted n c))
+movedCounts n reset c = cond (rejection n) (rejectedCounts c) (packetCounts n reset c)
 
 -- a fault with the answer n
 unfoldable pub faultCounts : ℕ → Counts → Counts

@@ -14,7 +14,7 @@ pub fn bump(b: bool, x: u16) -> u16
     x
 }
 
-// After a packet with the answer n; `reset` is whether it was own command 1. The answer that most packets get comes first, and
+// After a packet with the answer n; `reset` is whether its id selects the reset. The answer that most packets get comes first, and
 // each way returns, so that a packet pays for the counters that it moves and for no others.
 pub fn after_packet(c: Counts, n: u8, reset: bool) -> Counts
     ensures { λ r. ⌜ r ≡ movedCounts n reset c ⌝ }

@@ -11,7 +11,7 @@ use native.Mathlib.Omega.{arith}
 use lib.Dec.{T, eqb, eqb→eq}
 use lib.ListN.{length, getD, set, drop, length-set, length-map, List·getD-map, drop-of-length-le}
 use lib.Seq.{paste, paste-zero, paste-suc, drop-paste, getD-drop, take-length}
-use Rattle.faultstates.specs.FaultStates.{clear, nextState, clearAll}
+use Rattle.faultstates.specs.FaultStates.{disabled, enabled, latched, clear, nextState, clearAll}
 
 -- a test at every number below a bound, and what it says of each
 abbrev all : (ℕ → Bool) → ℕ → Bool
@@ -31,7 +31,11 @@ each-below f (suc n) k t h = go (each-below f n k (both (f n) (all f n) t .1)) (
     go ih (no e) = ih (omega arith)
 
 abbrev pub table : List (List ℕ)
-table = (1 ∷ 0 ∷ 0 ∷ 0 ∷ []) ∷ (1 ∷ 0 ∷ 1 ∷ 2 ∷ []) ∷ (2 ∷ 0 ∷ 1 ∷ 2 ∷ []) ∷ []
+table =
+    (enabled ∷ disabled ∷ disabled ∷ disabled ∷ [])
+    ∷ (enabled ∷ disabled ∷ enabled ∷ latched ∷ [])
+    ∷ (latched ∷ disabled ∷ enabled ∷ latched ∷ [])
+    ∷ []
 
 abbrev right : ℕ → ℕ → Bool
 right s e = eqb (getD (getD table s []) e 0) (nextState s e)

@@ -1,2 +1,3 @@
 pub mod FaultStates
 pub mod FaultLaws
+pub mod ActLaws

@@ -47,7 +47,7 @@ pub fn inner_fault<'a>(
         return types::bare(34);
     }
     let s = states[k];
-    if s != 1 {
+    if s != faultstates::ENABLED {
         return types::bare(13);
     }
     let id = responses[k];
@@ -55,7 +55,7 @@ pub fn inner_fault<'a>(
     let count = argcounts[k];
     let latches = latching[k];
     let written = respond(out, numbers.fault, id, args, k, count);
-    states[k] = faultstates::row_after(latches, s, 3);
+    states[k] = faultstates::row_after(latches, s, faultstates::FAULT);
     Answer {
         answer: 10,
         id: id,

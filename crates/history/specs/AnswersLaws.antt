@@ -1,6 +1,7 @@
 -- The plain reading's answer to an accepted packet is the answer of the step, where the path is armed as the list says.
 use mathlib.Core.Path.{_≡_, refl, sym, ap, _∙_}
 use mathlib.Core.Bool.{Bool, true, false, cond, not, _&&_, _||_, false≢true}
+use mathlib.Core.Option.{Option, none, some}
 use mathlib.Core.List.{List, map}
 use Prim.Native.Nat.{ℕ, zero, suc, _-_}
 use native.Mathlib.Omega.{arith}
@@ -11,13 +12,16 @@ use Rattle.packetrules.specs.Layout.{commandId}
 use Rattle.wire.specs.Check.{check}
 use Rattle.packetrules.specs.Judge.{argumentsOf}
 use Rattle.state.specs.Tables.{Tables, faultId, routed}
-use Rattle.state.specs.Rules.{own, member}
+use Rattle.state.specs.Rules.{member}
+use Rattle.state.specs.Rules as rules
 use Rattle.image.specs.Records.{Record}
 use Rattle.dispatch.specs.Dispatch.{destOf}
-use Rattle.answers.specs.Own.{ownNumber}
+use Rattle.answers.specs.declared.own.Own.{Own}
+use Rattle.answers.specs.declared.own.Own.the-variants.{Arm, ResetCounters, NoOp, NoOpWithArgument, Enable, Disable, Clear, ClearAll}
+use Rattle.answers.specs.Own.{ruleOf, ownCommand, isReset}
 use Rattle.state.specs.KeepsLaws.{both}
-use Rattle.answers.specs.OwnLaws.{own-range}
-use Rattle.answers.specs.Answers.{blocked, routeAnswer, answerFor, answerTo}
+use Rattle.answers.specs.OwnLaws as own
+use Rattle.answers.specs.Answers.{blocked, routeAnswer, selectedAnswer, answerFor, answerTo}
 use Rattle.answers.specs.Answers as steps
 use Rattle.history.specs.Plain.{Event, wanted, namesFault, faultNamed, tables, selects, isArm, armed, stopped, ownAnswer, packetAnswer}
 use Rattle.state.specs.Tables.{Route}
@@ -26,38 +30,86 @@ use Rattle.history.specs.Plain.{destination}
 pub destination-is : (id : ℕ) (routes : List Route) → destOf id routes ≡ destination id routes
 destination-is id routes = refl
 
+-- ---- the plain reading knows an own command by its number, the path by its name
+
+-- 8 where an id selects none
+abbrev pub numberFor : Option Own → ℕ
+numberFor none = 8
+numberFor (some k) = ruleOf k .number
+
+pub resets-by-number : (o : Option Own) → isReset o ≡ eqb (numberFor o) 1
+resets-by-number none = refl
+resets-by-number (some Arm) = refl
+resets-by-number (some ResetCounters) = refl
+resets-by-number (some NoOp) = refl
+resets-by-number (some NoOpWithArgument) = refl
+resets-by-number (some Enable) = refl
+resets-by-number (some Disable) = refl
+resets-by-number (some Clear) = refl
+resets-by-number (some ClearAll) = refl
+
+wanted-is : (k : Own) → wanted (ruleOf k .number) ≡ ruleOf k .wanted
+wanted-is Arm = refl
+wanted-is ResetCounters = refl
+wanted-is NoOp = refl
+wanted-is NoOpWithArgument = refl
+wanted-is Enable = refl
+wanted-is Disable = refl
+wanted-is Clear = refl
+wanted-is ClearAll = refl
+
+names-is : (k : Own) → namesFault (ruleOf k .number) ≡ ruleOf k .onRow
+names-is Arm = refl
+names-is ResetCounters = refl
+names-is NoOp = refl
+names-is NoOpWithArgument = refl
+names-is Enable = refl
+names-is Disable = refl
+names-is Clear = refl
+names-is ClearAll = refl
+
+done-is : (k : Own) → cond (eqb (ruleOf k .number) 0) 11 12 ≡ ruleOf k .done
+done-is Arm = refl
+done-is ResetCounters = refl
+done-is NoOp = refl
+done-is NoOpWithArgument = refl
+done-is Enable = refl
+done-is Disable = refl
+done-is Clear = refl
+done-is ClearAll = refl
+
 module _ (image : List Record) where
   abbrev t : Tables
   t = tables image
 
-  pub selects-is : (p : List ℕ) → selects image p ≡ ownNumber (t .base) (commandId p)
-  unfolding ownNumber
-  selects-is p = refl
-
-  own-is : (k : ℕ) (args : List ℕ) → ownAnswer image k args ≡ steps.ownAnswer (map faultId (t .rows)) k args
-  unfolding steps.ownAnswer
-  own-is k args = go (eqb (length args) (wanted k)) (namesFault k) (member (faultNamed args) (map faultId (t .rows)))
+  pub selects-is : (p : List ℕ) → selects image p ≡ numberFor (ownCommand (t .base) (commandId p))
+  selects-is p = go (own.selects (t .base) (commandId p))
     where
-      go : (a b m : Bool) → cond a (cond (b && not m) 32 (cond (eqb k 0) 11 12)) 31 ≡ check a 31 (check (not b || m) 32 (cond (eqb k 0) 11 12))
-      go true true true = refl
-      go true true false = refl
-      go true false m = refl
-      go false b m = refl
+      go : {o : Option Own} → own.Selects (t .base) (commandId p) o → selects image p ≡ numberFor o
+      go (own.is-own k o e) = simp (o, e)
+      go (own.not-own o) = simp o
 
-  small : (base id : ℕ) → own base id ≡ true → ltb (id - base) 8 ≡ true
-  small base id e = let r = own-range base id e in lt-ltb (id - base) 8 (omega arith)
+  own-is : (k : Own) (args : List ℕ) → ownAnswer image (ruleOf k .number) args ≡ steps.ownAnswer (map faultId (t .rows)) k args
+  unfolding steps.ownAnswer
+  own-is k args = rw (wanted-is k, names-is k, done-is k) (go (eqb (length args) (ruleOf k .wanted)) (ruleOf k .onRow) (member (faultNamed args) (map faultId (t .rows))) (ruleOf k .done))
+    where
+      go : (a b m : Bool) (d : ℕ) → cond a (cond (b && not m) 32 d) 31 ≡ check a 31 (check (not b || m) 32 d)
+      go true true true d = refl
+      go true true false d = refl
+      go true false m d = refl
+      go false b m d = refl
 
   -- past the protection
   route-is : (m : Bool) → cond m 10 33 ≡ check m 33 10
   route-is true = refl
   route-is false = refl
 
-  own-or-route : (p : List ℕ) (o : Bool) → own (t .base) (commandId p) ≡ o
-      → cond (own (t .base) (commandId p)) (ownAnswer image (selects image p) (argumentsOf p)) (cond (member (commandId p) (routed t)) 10 33)
-      ≡ cond (ltb (ownNumber (t .base) (commandId p)) 8) (steps.ownAnswer (map faultId (t .rows)) (ownNumber (t .base) (commandId p)) (argumentsOf p)) (routeAnswer (routed t) (commandId p))
-  unfolding ownNumber routeAnswer
-  own-or-route p true e = simp (e, small (t .base) (commandId p) e, own-is)
-  own-or-route p false e = simp e (route-is (member (commandId p) (routed t)))
+  own-or-route : (p : List ℕ) {o : Option Own} → own.Selects (t .base) (commandId p) o
+      → cond (rules.own (t .base) (commandId p)) (ownAnswer image (selects image p) (argumentsOf p)) (cond (member (commandId p) (routed t)) 10 33)
+      ≡ selectedAnswer (routed t) (map faultId (t .rows)) (commandId p) o (argumentsOf p)
+  unfolding routeAnswer
+  own-or-route p (own.is-own k o e) = simp (o, e) (own-is k (argumentsOf p))
+  own-or-route p (own.not-own o) = simp o (route-is (member (commandId p) (routed t)))
 
   protect : (m a : Bool) (x : ℕ) → cond (m && not a) 30 x ≡ check (not (not a && m)) 30 x
   protect true true x = refl
@@ -68,7 +120,7 @@ module _ (image : List Record) where
   pub answer-is : (h : List Event) (p : List ℕ) → packetAnswer image h p ≡ answerTo t (armed image h) (commandId p) (argumentsOf p)
   unfolding blocked answerFor
   answer-is h p =
-      ap (λ (x : ℕ). cond (stopped image h p) 30 x) (own-or-route p (own (t .base) (commandId p)) refl)
+      ap (λ (x : ℕ). cond (stopped image h p) 30 x) (own-or-route p (own.selects (t .base) (commandId p)))
       ∙ protect (member (commandId p) (t .protected)) (armed image h) _
 
   -- ---- 11 is a well-formed arm command, where the arm id is not protected
@@ -88,19 +140,19 @@ module _ (image : List Record) where
 
   -- no protected id is the arm id
   module _ (free : member (t .base) (t .protected) ≡ false) where
-    not-arm : (p : List ℕ) → own (t .base) (commandId p) ≡ true → member (commandId p) (t .protected) ≡ true → eqb (selects image p) 0 ≡ false
+    not-arm : (p : List ℕ) → rules.own (t .base) (commandId p) ≡ true → member (commandId p) (t .protected) ≡ true → eqb (selects image p) 0 ≡ false
     not-arm p o m =
-        let r = own-range (t .base) (commandId p) o in
+        let r = own.own-range (t .base) (commandId p) o in
         simp o (ne-eqb (commandId p - t .base) 0 (λ z. let e : commandId p ≡ t .base = omega arith in false≢true (sym free ∙ rw e at m)))
 
     pub arm-answer : (h : List Event) (p : List ℕ) → eqb (packetAnswer image h p) 11 ≡ isArm image p
-    arm-answer h p = go (stopped image h p) refl (own (t .base) (commandId p)) refl
+    arm-answer h p = go (stopped image h p) refl (rules.own (t .base) (commandId p)) refl
       where
         no-route-11 : (m : Bool) → eqb (cond m 10 33) 11 ≡ false
         no-route-11 true = refl
         no-route-11 false = refl
 
-        go : (s : Bool) → stopped image h p ≡ s → (o : Bool) → own (t .base) (commandId p) ≡ o → eqb (packetAnswer image h p) 11 ≡ isArm image p
+        go : (s : Bool) → stopped image h p ≡ s → (o : Bool) → rules.own (t .base) (commandId p) ≡ o → eqb (packetAnswer image h p) 11 ≡ isArm image p
         go true e true o = sym (simp (not-arm p o (both (member (commandId p) (t .protected)) _ e .0), e))
         go true e false o = sym (simp (o, e))
         go false e true o = simp e (simp o (arm-own (commandId p - t .base) (argumentsOf p)))

@@ -21,22 +21,23 @@ use Rattle.state.specs.Tables.{faultId, padded}
 use Rattle.state.specs.Rules.{member}
 use Rattle.image.specs.Records.{Record}
 use Rattle.image.specs.Image.{ofKind, tablesOfRecords}
-use Rattle.faultstates.specs.FaultStates.{rowAfter, actOn, rowFor, stateFor}
+use Rattle.faultstates.specs.FaultStates.{nextState, rowAfter, actOn, rowFor, stateFor}
 use Rattle.arming.specs.Arming.{unarmed, armedFor, armSet, armAfter, ticked, tickAnswer}
 use Rattle.counters.specs.Counters.{up, packetCounts, rejectedCounts, faultCounts}
 use Rattle.answers.specs.RowLaws.{not-fault}
-use Rattle.answers.specs.Own.{onRow, eventOf}
-use Rattle.answers.specs.OwnLaws.{row-range}
+use Rattle.answers.specs.declared.own.Own.{Own}
+use Rattle.answers.specs.declared.own.Own.the-variants as own
+use Rattle.answers.specs.Own.{ruleOf, ownCommand, isReset}
 use Rattle.answers.specs.Answers as steps
 use Rattle.faultstates.specs.FaultStates as events
-use Rattle.steprules.specs.Step.{statesAfter, acted, acceptedStep, rejectedStep, packetStep, tickStep, faulted, faultStep}
+use Rattle.steprules.specs.Step.{statesBy, statesAfter, acted, acceptedStep, rejectedStep, packetStep, tickStep, faulted, faultStep}
 use Rattle.steprules.specs.StepLaws.{packet-rejected, packet-accepted}
 use Rattle.steprules.specs.Demand1.{refused-range}
 use Rattle.history.specs.Plain.{rowNamed, Event, packet, tick, fault, accepted, nearest, ticksSince, Row, rowOf, whenEnabled, whenCleared, whenFaulted, faultAnswer, faultReply, more, tables, rows, selects, isArm, timeout, lasts, armed, packetAnswer, done, stateOf, faultNamed, packetReply, reply}
 use Rattle.history.specs.Path.{step, replyOf}
 use Rattle.history.specs.Known.{left, knownCounts, known}
 use Rattle.history.specs.RowsLaws.{plainRow, Distinct, map-same, map-then, act-known, clear-known, row-named, fault-answer, fault-known}
-use Rattle.history.specs.AnswersLaws.{selects-is, answer-is, arm-answer}
+use Rattle.history.specs.AnswersLaws.{numberFor, resets-by-number, selects-is, answer-is, arm-answer}
 
 -- ---- counters
 
@@ -59,39 +60,26 @@ module _ (rs : List Row) (d : Distinct rs) (st : Row → ℕ) (args : List ℕ) 
       (cond (eqb k 7) (whenCleared (st r))
       (st r))))
 
-  row-told : (k e : ℕ) → e ≡ eventOf k → ((r : Row) → cond (eqb (faultNamed args) (r .row .id)) (rowAfter (r .row .latching) (st r) e) (st r) ≡ toldBy k r)
-      → onRow k ≡ true → statesAfter (map plainRow rs) 12 k args (map st rs ++ zeros) ≡ map (toldBy k) rs ++ zeros
-  unfolding statesAfter
-  row-told k e q s r = rw (r, ← q) (act-known e (faultNamed args) st rs zeros d ∙ rw (map-same rs s))
+  abbrev states : List ℕ
+  states = map st rs ++ zeros
 
-  on-4 : (r : Row) → cond (eqb (faultNamed args) (r .row .id)) (rowAfter (r .row .latching) (st r) 0) (st r) ≡ toldBy 4 r
-  on-4 r = rw (← not-fault (r .row .latching) (st r) 0 (λ z. omega arith))
-
-  on-5 : (r : Row) → cond (eqb (faultNamed args) (r .row .id)) (rowAfter (r .row .latching) (st r) 1) (st r) ≡ toldBy 5 r
-  on-5 r = rw (← not-fault (r .row .latching) (st r) 1 (λ z. omega arith))
-
-  on-6 : (r : Row) → cond (eqb (faultNamed args) (r .row .id)) (rowAfter (r .row .latching) (st r) 2) (st r) ≡ toldBy 6 r
-  on-6 r = rw (← not-fault (r .row .latching) (st r) 2 (λ z. omega arith))
-
-  done-known : (k : ℕ) → statesAfter (map plainRow rs) 12 k args (map st rs ++ zeros) ≡ map (toldBy k) rs ++ zeros
-  unfolding statesAfter
-  done-known k = go (eqb k 4) refl (eqb k 5) refl (eqb k 6) refl (eqb k 7) refl
+  -- an event that is no fault on the row of the fault id that is named
+  row-told : (e : ℕ) → (e ≡ events.fault → ⊥) → (told : Row → ℕ) → ((r : Row) → cond (eqb (faultNamed args) (r .row .id)) (nextState (st r) e) (st r) ≡ told r)
+      → actOn e (faultNamed args) (map plainRow rs) states ≡ map told rs ++ zeros
+  row-told e n told s = act-known e (faultNamed args) st rs zeros d ∙ ap (λ (l : List ℕ). l ++ zeros) (map-same rs by)
     where
-      other : eqb k 4 ≡ false → eqb k 5 ≡ false → eqb k 6 ≡ false → onRow k ≡ false
-      other a b c = by (onRow k) refl
-        where
-          by : (o : Bool) → onRow k ≡ o → onRow k ≡ false
-          by true o = let w = row-range k o in absurd (omega (arith, eqb-false k 4 a, eqb-false k 5 b, eqb-false k 6 c))
-          by false o = o
+      by : (r : Row) → cond (eqb (faultNamed args) (r .row .id)) (rowAfter (r .row .latching) (st r) e) (st r) ≡ told r
+      by r = rw (← not-fault (r .row .latching) (st r) e n) (s r)
 
-      go : (a : Bool) → eqb k 4 ≡ a → (b : Bool) → eqb k 5 ≡ b → (c : Bool) → eqb k 6 ≡ c → (e : Bool) → eqb k 7 ≡ e
-          → statesAfter (map plainRow rs) 12 k args (map st rs ++ zeros) ≡ map (toldBy k) rs ++ zeros
-      go true ea b eb c ec e ee = let q = eqb-true k 4 ea in rw q (row-told 4 0 refl on-4 refl)
-      go false ea true eb c ec e ee = let q = eqb-true k 5 eb in rw q (row-told 5 1 refl on-5 refl)
-      go false ea false eb true ec e ee = let q = eqb-true k 6 ec in rw q (row-told 6 2 refl on-6 refl)
-      go false ea false eb false ec true ee = let q = eqb-true k 7 ee in rw q (clear-known st rs (32 - length rs))
-      go false ea false eb false ec false ee =
-          simp (other ea eb ec, ee) (ap (λ (l : List ℕ). l ++ zeros) (map-same rs (λ r. sym (simp (ea, eb, ec, ee)))))
+  done-known : (k : Own) → statesBy (λ e. actOn e (faultNamed args) (map plainRow rs) states) k states ≡ map (toldBy (ruleOf k .number)) rs ++ zeros
+  done-known own.Arm = refl
+  done-known own.ResetCounters = refl
+  done-known own.NoOp = refl
+  done-known own.NoOpWithArgument = refl
+  done-known own.Enable = row-told events.enable (λ z. omega arith) (toldBy 4) (λ r. refl)
+  done-known own.Disable = row-told events.disable (λ z. omega arith) (toldBy 5) (λ r. refl)
+  done-known own.Clear = row-told events.clear (λ z. omega arith) (toldBy 6) (λ r. refl)
+  done-known own.ClearAll = clear-known st rs (32 - length rs)
 
 -- ---- the arm record
 
@@ -181,6 +169,9 @@ module _ (image : List Record) where
       abbrev n : ℕ
       n = packetAnswer image h p
 
+      abbrev o : Option Own
+      o = ownCommand (tables image .base) (commandId p)
+
       done-is : (j : ℕ) → eqb n 12 ≡ true → done image j h p ≡ eqb (selects image p) j
       done-is j e = rw (a, e, and-true (eqb (selects image p) j))
 
@@ -191,17 +182,27 @@ module _ (image : List Record) where
           go true = refl
           go false = refl
 
-      states-known : statesAfter (tables image .rows) n (selects image p) (argumentsOf p) (padded 32 (map st (rows image))) ≡ padded 32 (map (stateOf image (packet p ∷ h)) (rows image))
+      done-none : (j : ℕ) → selects image p ≡ 8 → eqb 8 j ≡ false → done image j h p ≡ false
+      done-none j q e = rw (a, q, e)
+
+      states-known : statesAfter (tables image .rows) n o (argumentsOf p) (padded 32 (map st (rows image))) ≡ padded 32 (map (stateOf image (packet p ∷ h)) (rows image))
       unfolding statesAfter
-      states-known = go (eqb n 12) refl
+      states-known = go o (selects-is image p) (eqb n 12) refl
         where
-          go : (b : Bool) → eqb n 12 ≡ b → statesAfter (tables image .rows) n (selects image p) (argumentsOf p) (padded 32 (map st (rows image))) ≡ padded 32 (map (stateOf image (packet p ∷ h)) (rows image))
-          go true e =
-              rw (eqb-true n 12 e, rows-are, padded-rows st, padded-rows (stateOf image (packet p ∷ h)))
-              (done-known (rows image) (s .distinct) st (argumentsOf p) (selects image p)
-              ∙ ap (λ (l : List ℕ). l ++ replicate (32 - length (rows image)) 0) (map-same (rows image) (λ r. sym (simp (done-is 4 e, done-is 5 e, done-is 6 e, done-is 7 e)))))
-          go false e =
-              simp e (ap (padded 32) (map-same (rows image) (λ r. sym (simp (done-not 4 e, done-not 5 e, done-not 6 e, done-not 7 e)))))
+          After : Option Own → Type 0
+          After c = statesAfter (tables image .rows) n c (argumentsOf p) (padded 32 (map st (rows image))) ≡ padded 32 (map (stateOf image (packet p ∷ h)) (rows image))
+
+          same : ((r : Row) → st r ≡ stateOf image (packet p ∷ h) r) → padded 32 (map st (rows image)) ≡ padded 32 (map (stateOf image (packet p ∷ h)) (rows image))
+          same e = ap (padded 32) (map-same (rows image) e)
+
+          go : (c : Option Own) → selects image p ≡ numberFor c → (b : Bool) → eqb n 12 ≡ b → After c
+          go none q b e = same (λ r. sym (simp (done-none 4 q refl, done-none 5 q refl, done-none 6 q refl, done-none 7 q refl)))
+          go (some k) q true e =
+              let by : (j : ℕ) → done image j h p ≡ eqb (ruleOf k .number) j = λ j. done-is j e ∙ ap (λ m. eqb m j) q in
+              rw (e, rows-are, padded-rows st, padded-rows (stateOf image (packet p ∷ h)))
+              (done-known (rows image) (s .distinct) st (argumentsOf p) k
+              ∙ ap (λ (l : List ℕ). l ++ replicate (32 - length (rows image)) 0) (map-same (rows image) (λ r. sym (simp (by 4, by 5, by 6, by 7)))))
+          go (some k) q false e = simp e (same (λ r. sym (simp (done-not 4 e, done-not 5 e, done-not 6 e, done-not 7 e))))
 
       reply-answer : reply image h (packet p) .answer ≡ n
       reply-answer = rw a (go (eqb n 10) refl)
@@ -210,16 +211,19 @@ module _ (image : List Record) where
           go true e = simp e (sym (eqb-true n 10 e))
           go false e = simp e
 
-      counts-known : packetCounts n (selects image p) (knownCounts image h) ≡ knownCounts image (packet p ∷ h)
+      is-reset : isReset o ≡ eqb (selects image p) 1
+      is-reset = resets-by-number o ∙ ap (λ k. eqb k 1) (sym (selects-is image p))
+
+      counts-known : packetCounts n (eqb (selects image p) 1) (knownCounts image h) ≡ knownCounts image (packet p ∷ h)
       unfolding packetCounts
       counts-known = go (eqb n 12) refl (eqb (selects image p) 1) refl
         where
-          plain : done image 1 h p ≡ false → (eqb n 12 && eqb (selects image p) 1) ≡ false → packetCounts n (selects image p) (knownCounts image h) ≡ knownCounts image (packet p ∷ h)
+          plain : done image 1 h p ≡ false → (eqb n 12 && eqb (selects image p) 1) ≡ false → packetCounts n (eqb (selects image p) 1) (knownCounts image h) ≡ knownCounts image (packet p ∷ h)
           plain d e =
               rw (d, e, reply-answer)
               (simp (a, up-more true, up-more (eqb n 10), up-more (eqb n 30), up-more (eqb n 33), up-more (eqb n 31 || eqb n 32)))
 
-          go : (b : Bool) → eqb n 12 ≡ b → (c : Bool) → eqb (selects image p) 1 ≡ c → packetCounts n (selects image p) (knownCounts image h) ≡ knownCounts image (packet p ∷ h)
+          go : (b : Bool) → eqb n 12 ≡ b → (c : Bool) → eqb (selects image p) 1 ≡ c → packetCounts n (eqb (selects image p) 1) (knownCounts image h) ≡ knownCounts image (packet p ∷ h)
           go true e true f = let d : done image 1 h p ≡ true = done-is 1 e ∙ f in rw (d, e, f)
           go true e false f = plain (done-is 1 e ∙ f) (simp (e, f))
           go false e c f = plain (done-not 1 e) (simp e)
@@ -239,7 +243,7 @@ module _ (image : List Record) where
 
       accepted-run : acted (tables image) (known image h) (commandId p) (argumentsOf p) n .run ≡ known image (packet p ∷ h)
       accepted-run =
-          rw (← selects-is image p, arm-packet image p n (arm-answer image (s .free) h p), counts-known, states-known) (simp a)
+          rw (arm-packet image p n (arm-answer image (s .free) h p), is-reset, counts-known, states-known) (simp a)
 
     -- ---- a rejected packet
 

@@ -6,5 +6,7 @@ pub mod AnswersLaws
 pub mod KnownLaws
 pub mod Agree
 pub mod Calls
+pub mod Outputs
+pub mod ArmRule
 pub mod Wrap
 pub mod ShutOut

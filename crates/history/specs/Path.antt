@@ -9,6 +9,7 @@ use Rattle.state.specs.declared.types.Run.{Run}
 use Rattle.state.specs.Tables.{Tables}
 use Rattle.faultstates.specs.FaultStates.{rowFor}
 use Rattle.dispatch.specs.Dispatch.{commandBytes}
+use Rattle.steprules.specs.declared.types.Answer.{Answer}
 use Rattle.steprules.specs.declared.types.Stepped.{Stepped}
 use Rattle.steprules.specs.Step.{packetStep, tickStep, faultStep}
 use Rattle.history.specs.Plain.{Event, packet, tick, fault, Reply}
@@ -26,15 +27,12 @@ bytesFor t tick n = []
 bytesFor t (fault f) n =
     cond (eqb n 10) (commandBytes (t .fault) (rowFor f (t .rows) .response) (rowFor f (t .rows) .args)) []
 
+-- the reply of a step that gave this answer
+abbrev pub replyWith : Tables → Event → Answer → Reply
+replyWith t e a = record { answer = a .answer; id = a .id; dest = a .dest; written = a .written; bytes = bytesFor t e (a .answer) }
+
 abbrev pub replyOf : Tables → Event → Stepped → Reply
-replyOf t e s =
-    record {
-      answer = s .answer .answer;
-      id = s .answer .id;
-      dest = s .answer .dest;
-      written = s .answer .written;
-      bytes = bytesFor t e (s .answer .answer);
-    }
+replyOf t e s = replyWith t e (s .answer)
 
 -- a list of them
 abbrev pub run : Tables → Run → List Event → List Reply

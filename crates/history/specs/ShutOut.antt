@@ -1,9 +1,12 @@
 -- What demand 3 shuts out, each as a theorem about the plain reading, and so, by `agree`, about the running path.
 use mathlib.Core.Path.{_≡_, refl, ap, _∙_}
 use mathlib.Core.Bool.{Bool, true, false, cond, _&&_}
+use mathlib.Core.Logic.{_⊎_, inl, inr}
 use mathlib.Core.List.{List, [], _∷_, _++_}
 use Prim.Native.Nat.{ℕ}
+use native.Mathlib.Omega.{arith}
 use lib.Dec.{eqb}
+use borrow.Author.Tests.{ne-eqb}
 use Rattle.image.specs.Records.{Record}
 use Rattle.history.specs.Plain.{Event, latestFirst, packet, fault, Reply, Row, accepted, ticksSince, armed, packetAnswer, faultAnswer, rows, stateOf, reply, replies, resets, selects, whenFaulted}
 
@@ -38,11 +41,16 @@ module _ (image : List Record) (h : List Event) where
       go true false = refl
       go false b = refl
 
-  -- a fault state that follows faults answered 13
-  pub quiet-fault : (f : ℕ) (r : Row) → faultAnswer f (stateOf image h) (rows image) ≡ 13 → stateOf image (fault f ∷ h) r ≡ stateOf image h r
-  quiet-fault f r n =
-      ap (λ k. cond (eqb f (r .row .id) && eqb k 10) (whenFaulted r) (stateOf image h r)) n ∙ go (eqb f (r .row .id))
+  -- a fault state that follows a fault of another id, or one that is not answered 10
+  pub other-fault : (f : ℕ) (r : Row) → (f ≡ r .row .id → ⊥) ⊎ (faultAnswer f (stateOf image h) (rows image) ≡ 10 → ⊥) → stateOf image (fault f ∷ h) r ≡ stateOf image h r
+  other-fault f r (inl n) = simp (ne-eqb f (r .row .id) n)
+  other-fault f r (inr n) =
+      ap (λ b. cond (eqb f (r .row .id) && b) (whenFaulted r) (stateOf image h r)) (ne-eqb (faultAnswer f (stateOf image h) (rows image)) 10 n) ∙ go (eqb f (r .row .id))
     where
       go : (b : Bool) → cond (b && false) (whenFaulted r) (stateOf image h r) ≡ stateOf image h r
       go true = refl
       go false = refl
+
+  -- a fault state that follows faults answered 13
+  pub quiet-fault : (f : ℕ) (r : Row) → faultAnswer f (stateOf image h) (rows image) ≡ 13 → stateOf image (fault f ∷ h) r ≡ stateOf image h r
+  quiet-fault f r n = other-fault f r (inr (λ e. omega (arith, n)))

@@ -1,22 +1,24 @@
 // The packet step of a state that keeps its rules. The columns that it looks at are lent, and so are the fault states, which
 // change where they stand; the counters are for the caller. Every way out returns by itself.
 use answers::own;
+use answers::own::Own;
+use answers::own::Selection;
 use arming::after_packet;
-use state::rules;
 use state::types::Arm;
 use state::types::Numbers;
 use steprules::types;
 use steprules::types::Answer;
 use steprules::types::Moved;
 ghost use mathlib.Core.List.{List};
-ghost use Prim.Native.Nat.{ℕ, _≤_};
+ghost use Prim.Native.Nat.{ℕ, _≤_, _<_};
 ghost use lib.ListN.{length, take};
 ghost use mathlib.Core.Path.{_≡_};
 ghost use Rattle.state.specs.Tables.{configFrom};
 ghost use Rattle.state.specs.Lookup.{Column};
+ghost use Rattle.answers.specs.Own.{ruleOf};
 ghost use Rattle.answers.specs.Answers.{blocked};
 ghost use Rattle.answers.specs.AnswerLaws.{Lent};
-ghost use Rattle.steprules.specs.Moved.{StatesLent, quietly, rejectedBy, OwnMoves, PacketMoves};
+ghost use Rattle.steprules.specs.Moved.{StatesLent, quietly, rejectedBy, OwnMoves, RowMoves, PacketMoves};
 
 // A rejected packet: the arm record stays.
 fn rejected(arm: Arm, n: u8) -> Moved
@@ -56,42 +58,65 @@ fn is_blocked(ids: &[u16; 32], n: usize, armed: bool, id: u16) -> bool
     lookup::holds(ids, n, lookup::ROWS, id)
 }
 
-// The own command k.
+// An own command that acts on the row of the fault id in its arguments, by an event.
+fn row_step(
+    faultids: &[u16; 32],
+    nrows: usize,
+    arm: Arm,
+    states: &mut [u8; 32],
+    event: u8,
+    id: u16,
+    args: &[u8],
+) -> Moved
+    requires { ⌜ Column 32 (now faultids) nrows × StatesLent (now states) × (event < 4) ⌝ }
+    ensures { λ r. ⌜ RowMoves (take nrows (now (faultids .entry))) event id (now (args .entry)) (now (states .entry)) r (now (states .exit)) ⌝ }
+{
+    let at = lookup::place(faultids, nrows, lookup::ROWS, own::fault_arg(args));
+    if at >= nrows {
+        return quiet(arm, 32, id, args, false);
+    }
+    states[at] = faultstates::next(states[at], event);
+    quiet(arm, 12, id, args, false)
+}
+
+// An own command, which takes `wanted` argument bytes.
 fn own_step(
     faultids: &[u16; 32],
     nrows: usize,
     arm: Arm,
     states: &mut [u8; 32],
-    k: u8,
+    command: Own,
+    wanted: usize,
     id: u16,
     args: &[u8],
 ) -> Moved
-    requires { ⌜ Column 32 (now faultids) nrows × StatesLent (now states) ⌝ }
-    ensures { λ r. ⌜ OwnMoves (take nrows (now (faultids .entry))) k id (now (args .entry)) (now (states .entry)) r (now (states .exit)) ⌝ }
+    requires { ⌜ Column 32 (now faultids) nrows × StatesLent (now states) × (wanted ≡ ruleOf command .wanted) ⌝ }
+    ensures { λ r. ⌜ OwnMoves (take nrows (now (faultids .entry))) command id (now (args .entry)) (now (states .entry)) r (now (states .exit)) ⌝ }
 {
-    let c = own::selected(k);
-    if args.len() != c.wanted {
+    if args.len() != wanted {
         return quiet(arm, 31, id, args, false);
     }
-    if c.row {
-        let at = lookup::place(faultids, nrows, lookup::ROWS, own::fault_arg(args));
-        if at >= nrows {
-            return quiet(arm, 32, id, args, false);
+    match command {
+        Own::Arm => return quiet(arm, 11, id, args, false),
+        Own::ResetCounters => return quiet(arm, 12, id, args, true),
+        Own::NoOp => return quiet(arm, 12, id, args, false),
+        Own::NoOpWithArgument => return quiet(arm, 12, id, args, false),
+        Own::Enable => return row_step(faultids, nrows, arm, states, faultstates::ENABLE, id, args),
+        Own::Disable => return row_step(
+            faultids,
+            nrows,
+            arm,
+            states,
+            faultstates::DISABLE,
+            id,
+            args,
+        ),
+        Own::Clear => return row_step(faultids, nrows, arm, states, faultstates::CLEAR, id, args),
+        Own::ClearAll => {
+            faultstates::clear_all(states);
+            return quiet(arm, 12, id, args, false);
         }
-        states[at] = faultstates::next(states[at], k - 4);
-        return quiet(arm, 12, id, args, false);
     }
-    if k == 0 {
-        return quiet(arm, 11, id, args, false);
-    }
-    if k == 1 {
-        return quiet(arm, 12, id, args, true);
-    }
-    if k == 7 {
-        faultstates::clear_all(states);
-        return quiet(arm, 12, id, args, false);
-    }
-    quiet(arm, 12, id, args, false)
 }
 
 // The step, with room in the output. The arguments are handed on as the part of the packet from byte 10. What it does is said of
@@ -122,9 +147,18 @@ pub fn inner_packet<'a>(
     if is_blocked(protected, numbers.nprotected, arm.armed, id) {
         return quiet(arm, 30, id, args, false);
     }
-    if rules::is_own(numbers.base, id) {
-        let k = own::number(numbers.base, id);
-        return own_step(faultids, numbers.nrows, arm, states, k, id, args);
+    let selection = own::selected(numbers.base, id);
+    if let Selection::Command(command, wanted) = selection {
+        return own_step(
+            faultids,
+            numbers.nrows,
+            arm,
+            states,
+            command,
+            wanted,
+            id,
+            args,
+        );
     }
     let at = lookup::place(routeids, numbers.nroutes, lookup::ROUTES, id);
     if at >= numbers.nroutes {

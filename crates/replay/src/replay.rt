@@ -63,14 +63,14 @@ pub fn inner_replay<'a>(
     while read < recording.len() {
         let end = records::record::end_of(recording, read);
         if end == 0 {
-            return stopped(armed, counted, 1, read, count, wrote);
+            return stopped(armed, counted, recording::CUT_SHORT, read, count, wrote);
         }
         let kind = records::record::word_at(recording, read + 2);
         let from = read + 4;
         let body = &recording[from..end];
         if kind == 16 {
             if out.len() - wrote < 266 {
-                return stopped(armed, counted, 21, read, count, wrote);
+                return stopped(armed, counted, recording::OUTPUT_FULL, read, count, wrote);
             }
             let place = wrote + 6;
             let sent = packetstep::inner_packet(
@@ -92,10 +92,10 @@ pub fn inner_replay<'a>(
             read = end;
         } else if kind == 17 {
             if body.len() != 0 {
-                return stopped(armed, counted, 3, read, count, wrote);
+                return stopped(armed, counted, recording::WRONG_LENGTH, read, count, wrote);
             }
             if out.len() - wrote < 266 {
-                return stopped(armed, counted, 21, read, count, wrote);
+                return stopped(armed, counted, recording::OUTPUT_FULL, read, count, wrote);
             }
             let ticked = arming::tick_of(armed);
             wrote = recording::put_numbers(out, wrote, steprules::types::bare(ticked.answer));
@@ -108,7 +108,7 @@ pub fn inner_replay<'a>(
                 return stopped(armed, counted, refused, read, count, wrote);
             }
             if out.len() - wrote < 266 {
-                return stopped(armed, counted, 21, read, count, wrote);
+                return stopped(armed, counted, recording::OUTPUT_FULL, read, count, wrote);
             }
             let place = wrote + 6;
             let fault = records::record::word_at(body, 0);

@@ -6,3 +6,5 @@ pub mod Replay
 pub mod Walk
 pub mod ReplayLaws
 pub mod Theorems
+pub mod RecordPieces
+pub mod Pieces

@@ -1,8 +1,9 @@
--- Laws of one step of the running path: the bytes of its command, as they stand in the output and as its answer counts them.
-use mathlib.Core.Path.{_≡_, refl, sym, ap, _∙_}
+-- Laws of one step of the running path: the bytes of its command, as they stand in the output (passed on from `history`) and as
+-- its answer counts them.
+use mathlib.Core.Path.{_≡_, refl}
 use mathlib.Core.Bool.{Bool, true, false, cond}
-use mathlib.Core.List.{List, [], _∷_}
-use Prim.Native.Nat.{ℕ, _+_, _<_, _≤_}
+use mathlib.Core.List.{List, []}
+use Prim.Native.Nat.{ℕ, _+_}
 use native.Mathlib.Omega.{arith}
 use lib.Dec.{eqb}
 use lib.ListN.{length}
@@ -12,31 +13,15 @@ use Rattle.packetrules.specs.Judge.{refusalOf, argumentsOf}
 use Rattle.packetrules.specs.Laws.{outcome}
 use Rattle.state.specs.declared.types.Run.{Run}
 use Rattle.state.specs.Tables.{Tables}
-use Rattle.dispatch.specs.Dispatch.{commandBytes, over, sent, for10}
+use Rattle.dispatch.specs.Dispatch.{commandBytes, for10}
 use Rattle.faultstates.specs.FaultStates.{rowFor}
 use Rattle.answers.specs.Answers.{answerTo, faultAnswer}
-use Rattle.steprules.specs.Step.{acceptedStep, rejectedStep, packetStep, packetOutput, tickStep, faultStep, faultOutput}
+use Rattle.steprules.specs.Step.{acceptedStep, rejectedStep, packetStep, tickStep, faultStep}
 use Rattle.steprules.specs.StepLaws.{packet-rejected, packet-accepted}
 use Rattle.steprules.specs.Demand1.{refused-range}
 use Rattle.history.specs.Plain.{Event, packet, tick, fault}
 use Rattle.history.specs.Path.{step, bytesFor}
-
-sent-over : (n source id : ℕ) (args out : List ℕ) → sent n source id args out ≡ over (cond (eqb n 10) (commandBytes source id args) []) out
-unfolding sent
-sent-over n source id args out = go (eqb n 10)
-  where
-    go : (b : Bool) → cond b (over (commandBytes source id args) out) out ≡ over (cond b (commandBytes source id args) []) out
-    go true = refl
-    go false = refl
-
-module _ (t : Tables) (n : ℕ) (out : List ℕ) where
-  pub packet-over : (p : List ℕ) → packetOutput t n p out ≡ over (bytesFor t (packet p) n) out
-  unfolding packetOutput
-  packet-over p = sent-over n (t .ground) (commandId p) (argumentsOf p) out
-
-  pub fault-over : (f : ℕ) → faultOutput t n f out ≡ over (bytesFor t (fault f) n) out
-  unfolding faultOutput
-  fault-over f = sent-over n (t .fault) (rowFor f (t .rows) .response) (rowFor f (t .rows) .args) out
+pub use Rattle.history.specs.Outputs.{packet-over, fault-over}
 
 command-long : (n source id : ℕ) (args : List ℕ) → length (cond (eqb n 10) (commandBytes source id args) []) ≡ for10 n (5 + length args)
 command-long n source id args = go (eqb n 10)

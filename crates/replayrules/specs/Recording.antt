@@ -18,12 +18,26 @@ eventIn r = cond (eqb (r .kind) 16) (packet (r .body)) (cond (eqb (r .kind) 17) 
 abbrev pub eventSized : ℕ → ℕ → Bool
 eventSized kind size = cond (eqb kind 16) true (cond (eqb kind 17) (eqb size 0) (eqb size 2))
 
--- a record that is cut, of another kind or of wrong length, by the numbers of the image: 1, 2, 3; 0 where it is none
+-- why a reading stops before its end, each by a number that means nothing else: a record that is cut, one of another kind, one
+-- of wrong length, and an output that is full
+abbrev pub cutShort : ℕ
+cutShort = 60
+
+abbrev pub otherKind : ℕ
+otherKind = 61
+
+abbrev pub wrongLength : ℕ
+wrongLength = 62
+
+abbrev pub outputFull : ℕ
+outputFull = 63
+
+-- what is wrong with a whole record; 0 where nothing is
 unfoldable pub kindRefusal : ℕ → ℕ → ℕ
-kindRefusal kind size = check (leb 16 kind && leb kind 18) 2 (check (eventSized kind size) 3 0)
+kindRefusal kind size = check (leb 16 kind && leb kind 18) otherKind (check (eventSized kind size) wrongLength 0)
 
 abbrev pub eventRefusal : Record → ℕ
-eventRefusal r = check (r .whole) 1 (kindRefusal (r .kind) (length (r .body)))
+eventRefusal r = check (r .whole) cutShort (kindRefusal (r .kind) (length (r .body)))
 
 -- the events before the first bad record
 abbrev pub eventsOf : List Record → List Event

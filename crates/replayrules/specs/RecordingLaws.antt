@@ -7,16 +7,16 @@ use lib.Dec.{eqb, leb}
 use borrow.Author.Tests.{ne-eqb, eqb-true, eqb-false, leb-true}
 use Rattle.records.specs.Records.{le16, Record}
 use Rattle.history.specs.Plain.{packet, tick, fault}
-use Rattle.replayrules.specs.Recording.{eventIn, kindRefusal}
+use Rattle.replayrules.specs.Recording.{eventIn, otherKind, wrongLength, kindRefusal}
 
 -- a record of this kind and body length, and its refusal
 pub data Sort (kind size : ℕ) : ℕ → Type 0 where
   is-packet : kind ≡ 16 → Sort kind size 0
   is-tick : kind ≡ 17 → size ≡ 0 → Sort kind size 0
   is-fault : kind ≡ 18 → size ≡ 2 → Sort kind size 0
-  long-tick : kind ≡ 17 → (size ≡ 0 → ⊥) → Sort kind size 3
-  bad-fault : kind ≡ 18 → (size ≡ 2 → ⊥) → Sort kind size 3
-  other : (kind ≡ 16 → ⊥) → (kind ≡ 17 → ⊥) → (kind ≡ 18 → ⊥) → Sort kind size 2
+  long-tick : kind ≡ 17 → (size ≡ 0 → ⊥) → Sort kind size wrongLength
+  bad-fault : kind ≡ 18 → (size ≡ 2 → ⊥) → Sort kind size wrongLength
+  other : (kind ≡ 16 → ⊥) → (kind ≡ 17 → ⊥) → (kind ≡ 18 → ⊥) → Sort kind size otherKind
 
 module _ {kind size : ℕ} where
   pub only : {n : ℕ} → Sort kind size n → n ≡ kindRefusal kind size

@@ -19,11 +19,11 @@ use Rattle.history.specs.Known.{knownCounts}
 use Rattle.replayrules.specs.declared.types.Piece.{Piece}
 use Rattle.replayrules.specs.declared.types.Reached.{Reached}
 use Rattle.replayrules.specs.declared.types.Replayed.{Replayed}
-use Rattle.replayrules.specs.Recording.{eventsOf, firstRefusal, bytesIn, flat, fitting}
+use Rattle.replayrules.specs.Recording.{outputFull, eventsOf, firstRefusal, bytesIn, flat, fitting}
 
--- why the reading stopped, once these replies were given: 21 where an event is left, else what refuses the first bad record
+-- why the reading stopped, once these replies were given: the output is full where an event is left, else what refuses the first bad record
 abbrev pub stopOf : List Reply → List Record → ℕ
-stopOf xs rs = cond (ltb (length xs) (length (eventsOf rs))) 21 (firstRefusal rs)
+stopOf xs rs = cond (ltb (length xs) (length (eventsOf rs))) outputFull (firstRefusal rs)
 
 -- the first events, as many as replies were given
 abbrev pub answered : List Reply → List Record → List Event

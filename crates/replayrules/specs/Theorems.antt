@@ -1,26 +1,34 @@
 -- What a caller of a replay may rely on: an output with 266 bytes for each event holds every answer, a shorter one the first of
--- them, and a recording that comes in pieces gets the answers of the whole.
-use mathlib.Core.Path.{_≡_, refl, ap}
-use mathlib.Core.Bool.{Bool, true, false, cond}
-use mathlib.Core.List.{List, [], _∷_, _++_, map}
-use Prim.Native.Nat.{ℕ, suc, _-_, _*_, _≤_}
+-- them; each answer stands at its event's place and keeps the arm rule; a piece that stops with 20 has done nothing; and a list
+-- of events in pieces gets the answers of the whole.
+use mathlib.Core.Path.{_≡_, refl, ap, _∙_}
+use mathlib.Core.Bool.{Bool, true, false, cond, _&&_}
+use mathlib.Core.Logic.{_⊎_, inl, inr}
+use mathlib.Core.List.{List, [], _∷_, _++_}
+use Prim.Native.Nat.{ℕ, zero, suc, _-_, _*_, _≤_, _<_}
 use native.Mathlib.Omega.{arith}
-use lib.Dec.{eqb, leb, lit≤}
-use lib.ListN.{length, take}
+use lib.Dec.{eqb, leb, ltb, lit≤}
+use lib.ListN.{length, getD, take}
 use borrow.Author.Tests.{eq-eqb, le-leb}
-use Rattle.packetrules.specs.Judge.{refusalOf, argumentsOf}
-use Rattle.packetrules.specs.Parts.{arguments-few}
+use Rattle.packetrules.specs.Layout.{commandId}
+use Rattle.wire.specs.Check.{check}
+use Rattle.state.specs.declared.types.Config.{Config}
 use Rattle.state.specs.declared.types.Run.{Run}
-use Rattle.state.specs.Tables.{Tables, routed}
+use Rattle.state.specs.Tables.{Tables, routed, tablesOf}
+use Rattle.state.specs.Test.{keepsRules}
+use Rattle.state.specs.Rules.{member}
 use Rattle.state.specs.Keeps.{Each, RowOk}
+use Rattle.state.specs.KeepsLaws.{keeps}
 use Rattle.records.specs.Records.{Record, recordsOf}
-use Rattle.records.specs.Checks.{ofKind, rowIn, tablesOfRecords}
 use Rattle.image.specs.Image.{loadOf}
-use Rattle.image.specs.Theorems.{loads-good}
-use Rattle.history.specs.Plain.{Event, packet, tick, fault, Reply, bare, dispatched, rowOf, rowNamed, rows, accepted, packetAnswer, packetReply, faultAnswer, stateOf, reply, replies}
+use Rattle.image.specs.Theorems.{loaded-keeps}
+use Rattle.history.specs.Plain.{Event, packet, Reply, bare, accepted, latestFirst, tables, reply, replies}
 use Rattle.history.specs.Path.{step, replyOf, run, after}
-use Rattle.replayrules.specs.Recording.{eventsOf, replyBytes, fitting}
-use Rattle.replayrules.specs.Replay.{plainReplies}
+use Rattle.history.specs.Agree.{agree}
+use Rattle.history.specs.Outputs.{step-fits}
+use Rattle.history.specs.ArmRule.{PastExactly, plain-arm-rule}
+use Rattle.replayrules.specs.Recording.{cutShort, otherKind, wrongLength, outputFull, eventSized, kindRefusal, eventRefusal, eventsOf, firstRefusal, replyBytes, fitting}
+use Rattle.replayrules.specs.Replay.{stopOf, pathReplies, idle, pieceOf, pieceBytes, plainReplies}
 
 -- ---- the answers that find room
 
@@ -45,51 +53,114 @@ all-fit room [] h l = refl
 all-fit room (x ∷ xs) h l =
     rw (le-leb 266 room (omega arith)) (ap (λ (r : List Reply). x ∷ r) (all-fit (room - length (replyBytes x)) xs (h .1) (omega (arith, h .0))))
 
-sent-short : (n source id dest : ℕ) (args : List ℕ) (other : Reply) → length args ≤ 255 → Short other → Short (cond (eqb n 10) (dispatched source id dest args) other)
-sent-short n source id dest args other l o = go (eqb n 10)
+module _ (t : Tables) where
+  -- one for each event
+  pub run-long : (s : Run) (es : List Event) → length (run t s es) ≡ length es
+  run-long s [] = refl
+  run-long s (e ∷ es) = ap suc (run-long (step t s e .run) es)
+
+  module _ (ok : Each (RowOk (routed t)) (t .rows)) where
+    short : (s : Run) (e : Event) → Short (replyOf t e (step t s e))
+    short s e = omega (arith, step-fits t ok s e .short)
+
+    all-short : (s : Run) (es : List Event) → Each Short (run t s es)
+    all-short s [] = tt
+    all-short s (e ∷ es) = (short s e, all-short (step t s e .run) es)
+
+-- of a state that keeps its rules
+pub path-answered : (c : Config) (s : Run) → keepsRules c s ≡ true → (es : List Event) (room : ℕ) → 266 * length es ≤ room → fitting room (run (tablesOf c) s es) ≡ run (tablesOf c) s es
+path-answered c s k es room l =
+    let t = tablesOf c in
+    all-fit room (run t s es) (all-short t (keeps c s k .rules .rows-ok) s es) (omega (arith, run-long t s es))
+
+pub replies-long : (image : List Record) (h es : List Event) → length (replies image h es) ≡ length es
+replies-long image h [] = refl
+replies-long image h (e ∷ es) = ap suc (replies-long image (e ∷ h) es)
+
+-- and of an image, by the plain reading
+pub all-answered : (image : List ℕ) → loadOf image .answer ≡ 0 → (recording : List ℕ) (room : ℕ) → 266 * length (eventsOf (recordsOf recording)) ≤ room
+    → plainReplies image recording room ≡ replies (recordsOf image) [] (eventsOf (recordsOf recording))
+all-answered image z recording room l =
+    let es = eventsOf (recordsOf recording) in
+    rw (eq-eqb _ _ z, ← agree image z es) (path-answered (loadOf image .config) (loadOf image .run) (loaded-keeps image z) es room l)
+
+-- ---- each answer of a replay
+
+-- the reply at a place, and one with the answer 0 where there is none
+abbrev pub replyAt : List Reply → ℕ → Reply
+replyAt xs k = getD xs k (bare 0)
+
+fitting-at : (room : ℕ) (xs : List Reply) (k : ℕ) → k < length (fitting room xs) → replyAt (fitting room xs) k ≡ replyAt xs k
+fitting-at room [] k l = refl
+fitting-at room (x ∷ xs) k l = go (leb 266 room) k l (λ k l. fitting-at (room - length (replyBytes x)) xs k l)
   where
-    go : (b : Bool) → Short (cond b (dispatched source id dest args) other)
-    go true = omega arith
-    go false = o
+    rest : List Reply
+    rest = fitting (room - length (replyBytes x)) xs
 
--- a row of the image has at most 16 arguments
-row-few : (ids : List ℕ) (bodies : List (List ℕ)) → Each (RowOk ids) (map rowIn bodies) → (f : ℕ) → length (rowNamed f (map rowOf bodies) .args) ≤ 255
-row-few ids [] h f = lit≤ tt
-row-few ids (b ∷ bodies) h f = go (eqb f (rowOf b .row .id)) (row-few ids bodies (h .1) f)
-  where
-    go : (t : Bool) → length (rowNamed f (map rowOf bodies) .args) ≤ 255 → length (cond t (rowOf b .row) (rowNamed f (map rowOf bodies)) .args) ≤ 255
-    go true ih = omega (arith, h .0 .few-args)
-    go false ih = ih
+    go : (b : Bool) (k : ℕ) → k < length (cond b (x ∷ rest) []) → ((k : ℕ) → k < length rest → replyAt rest k ≡ replyAt xs k) → replyAt (cond b (x ∷ rest) []) k ≡ replyAt (x ∷ xs) k
+    go true zero l ih = refl
+    go true (suc k) l ih = ih k (omega arith)
+    go false k l ih = absurd (omega arith)
 
-module _ (image : List ℕ) (z : loadOf image .answer ≡ 0) where
-  abbrev records : List Record
-  records = recordsOf image
+plain-at : (image : List Record) (h before : List Event) (e : Event) (later : List Event) → replyAt (replies image h (before ++ (e ∷ later))) (length before) ≡ reply image (latestFirst h before) e
+plain-at image h [] e later = refl
+plain-at image h (x ∷ before) e later = plain-at image (x ∷ h) before e later
 
-  short : (h : List Event) (e : Event) → Short (reply records h e)
-  unfolding tablesOfRecords
-  short h (packet p) = go (accepted p)
+module _ (image recording : List ℕ) (room : ℕ) (before later : List Event) where
+  -- the event behind `before`, where an answer to it was given, has the plain reply that the events before it ask for
+  pub replay-at : (e : Event) → eventsOf (recordsOf recording) ≡ before ++ (e ∷ later) → length before < length (plainReplies image recording room)
+      → replyAt (plainReplies image recording room) (length before) ≡ reply (recordsOf image) (latestFirst [] before) e
+  replay-at e s l = go (eqb (loadOf image .answer) 0) l
     where
-      go : (b : Bool) → Short (cond b (packetReply records p (packetAnswer records h p)) (bare (refusalOf p)))
-      go true = sent-short (packetAnswer records h p) _ _ _ (argumentsOf p) _ (arguments-few p) (lit≤ tt)
-      go false = lit≤ tt
-  short h tick = lit≤ tt
-  short h (fault f) =
-      sent-short (faultAnswer f (stateOf records h) (rows records)) _ _ _ (rowNamed f (rows records) .args) _ (row-few (routed (tablesOfRecords records)) (ofKind 4 records) (loads-good image z .rules .rows-ok) f) (lit≤ tt)
+      whole : List Reply
+      whole = replies (recordsOf image) [] (eventsOf (recordsOf recording))
 
-  all-short : (h es : List Event) → Each Short (replies records h es)
-  all-short h [] = tt
-  all-short h (e ∷ es) = (short h e, all-short (e ∷ h) es)
+      go : (b : Bool) → length before < length (cond b (fitting room whole) []) → replyAt (cond b (fitting room whole) []) (length before) ≡ reply (recordsOf image) (latestFirst [] before) e
+      go true l = fitting-at room whole (length before) l ∙ rw s (plain-at (recordsOf image) [] before e later)
+      go false l = absurd (omega arith)
 
-  long : (h es : List Event) → length (replies records h es) ≡ length es
-  long h [] = refl
-  long h (e ∷ es) = ap suc (long (e ∷ h) es)
+  -- the arm rule of a replay: a protected command from an accepted packet is let past exactly when the events before it say so
+  pub replay-arm-rule :
+      (p : List ℕ) → accepted p ≡ true → member (commandId p) (tables (recordsOf image) .protected) ≡ true
+      → eventsOf (recordsOf recording) ≡ before ++ (packet p ∷ later) → length before < length (plainReplies image recording room)
+      → PastExactly (recordsOf image) (latestFirst [] before) (replyAt (plainReplies image recording room) (length before) .answer)
+  replay-arm-rule p a m s l = rw (replay-at (packet p) s l) (plain-arm-rule (recordsOf image) (latestFirst [] before) p a m)
 
-  pub all-answered : (recording : List ℕ) (room : ℕ) → 266 * length (eventsOf (recordsOf recording)) ≤ room → plainReplies image recording room ≡ replies records [] (eventsOf (recordsOf recording))
-  all-answered recording room l =
-      let es = eventsOf (recordsOf recording) in
-      rw (eq-eqb _ _ z) (all-fit room (replies records [] es) (all-short [] es) (omega (arith, long [] es)))
+-- ---- a state that breaks its rules
 
--- ---- a recording in pieces
+-- the stops by a bad record, which are neither a broken state's nor a full output's
+pub refusal-range : (rs : List Record) → (firstRefusal rs ≡ 0) ⊎ ((cutShort ≤ firstRefusal rs) × (firstRefusal rs ≤ wrongLength))
+unfolding kindRefusal
+refusal-range [] = inl refl
+refusal-range (r ∷ rs) = go (eqb (eventRefusal r) 0) (r .whole) (leb 16 (r .kind) && leb (r .kind) 18) (eventSized (r .kind) (length (r .body))) (refusal-range rs)
+  where
+    go : (z w k n : Bool) → (firstRefusal rs ≡ 0) ⊎ ((cutShort ≤ firstRefusal rs) × (firstRefusal rs ≤ wrongLength))
+        → let m = cond z (firstRefusal rs) (check w cutShort (check k otherKind (check n wrongLength 0))) in (m ≡ 0) ⊎ ((cutShort ≤ m) × (m ≤ wrongLength))
+    go true w k n ih = ih
+    go false false k n ih = inr (lit≤ tt, lit≤ tt)
+    go false true false n ih = inr (lit≤ tt, lit≤ tt)
+    go false true true false ih = inr (lit≤ tt, lit≤ tt)
+    go false true true true ih = inl refl
+
+stop-not-20 : (xs : List Reply) (rs : List Record) → stopOf xs rs ≡ 20 → ⊥
+stop-not-20 xs rs e = go (ltb (length xs) (length (eventsOf rs))) (refusal-range rs) e
+  where
+    go : (b : Bool) → (firstRefusal rs ≡ 0) ⊎ ((cutShort ≤ firstRefusal rs) × (firstRefusal rs ≤ wrongLength)) → cond b outputFull (firstRefusal rs) ≡ 20 → ⊥
+    go true r e = omega arith
+    go false (inl z) e = omega arith
+    go false (inr (l, h)) e = omega arith
+
+-- a piece that stops with 20 has read, answered and written nothing, and leaves the run as it was
+pub piece-20 : (c : Config) (s : Run) (recording : List ℕ) (room : ℕ) → pieceOf c s recording room .stop ≡ 20
+    → (pieceOf c s recording room ≡ idle s 20) × (pieceBytes c s recording room ≡ [])
+unfolding pieceOf pieceBytes
+piece-20 c s recording room e = go (keepsRules c s) refl
+  where
+    go : (b : Bool) → keepsRules c s ≡ b → (pieceOf c s recording room ≡ idle s 20) × (pieceBytes c s recording room ≡ [])
+    go true k = absurd (stop-not-20 (pathReplies (tablesOf c) s (recordsOf recording) room) (recordsOf recording) (rw k at e))
+    go false k = rw k (refl, refl)
+
+-- ---- a list of events in pieces
 
 module _ (t : Tables) where
   pub run-pieces : (s : Run) (es fs : List Event) → run t s (es ++ fs) ≡ run t s es ++ run t (after t s es) fs

@@ -22,7 +22,7 @@ use Rattle.history.specs.Plain.{Event, Reply}
 use Rattle.history.specs.Path.{step, bytesFor, replyOf, after}
 use Rattle.history.specs.Calls.{EventBytes, step-keeps}
 use Rattle.replayrules.specs.declared.types.Piece.{Piece}
-use Rattle.replayrules.specs.Recording.{eventIn, eventRefusal, kindRefusal, eventsOf, firstRefusal, bytesIn, headBytes, replyBytes, flat, fitting}
+use Rattle.replayrules.specs.Recording.{cutShort, outputFull, eventIn, eventRefusal, kindRefusal, eventsOf, firstRefusal, bytesIn, headBytes, replyBytes, flat, fitting}
 use Rattle.replayrules.specs.Replay.{stopOf, answered, pathReplies, piece}
 use Rattle.replayrules.specs.OutputLaws.{backAs, partFrom, part-is, reply-put, answer-put}
 use Rattle.replayrules.specs.PathLaws.{written-is}
@@ -128,7 +128,7 @@ module _ {c : Config} {bs out₀ : List ℕ} {s₀ : Run} {out : List ℕ} {s : 
   pub ends : length bs ≤ read → Told c bs out₀ s₀ out (record { run = s; stop = 0; read = read; count = count; wrote = wrote })
   ends l = let none = none-from (g .fuel) bs read l in stops (rw none) (rw none)
 
-  pub cuts : read < length bs → recordAt bs read ≡ cut read → Told c bs out₀ s₀ out (record { run = s; stop = 1; read = read; count = count; wrote = wrote })
+  pub cuts : read < length bs → recordAt bs read ≡ cut read → Told c bs out₀ s₀ out (record { run = s; stop = cutShort; read = read; count = count; wrote = wrote })
   cuts l e =
       let one : records ≡ cut read ∷ [] = one-from (g .fuel) bs read (g .enough) l ∙ rw e in
       stops (rw one) (rw one)
@@ -145,7 +145,7 @@ module _ {c : Config} {bs out₀ : List ℕ} {s₀ : Run} {out : List ℕ} {s : 
       pub refuses : (n ≡ 0 → ⊥) → Told c bs out₀ s₀ out (record { run = s; stop = n; read = read; count = count; wrote = wrote })
       refuses q = stops (rw (here, ← e) (simp (ne-eqb n 0 q))) (rw (here, ← e) (simp (ne-eqb n 0 q)))
 
-      pub cramped : n ≡ 0 → length out₀ - wrote < 266 → Told c bs out₀ s₀ out (record { run = s; stop = 21; read = read; count = count; wrote = wrote })
+      pub cramped : n ≡ 0 → length out₀ - wrote < 266 → Told c bs out₀ s₀ out (record { run = s; stop = outputFull; read = read; count = count; wrote = wrote })
       cramped z q =
           let good = eq-eqb _ _ (sym e ∙ z) in
           stops (rw (here, good) (simp (lt-leb 266 (length out₀ - wrote) q))) (rw (here, good, lt-ltb 0 (length (eventIn found ∷ eventsOf (recordsFrom (g .fuel - 1) bs end))) (omega arith)))

@@ -8,7 +8,17 @@ ghost use lib.ListN.{length};
 ghost use Rattle.wire.specs.Put.{putAt};
 ghost use Rattle.replayrules.specs.Recording.{kindRefusal, headBytes};
 
-// What refuses a whole record: 2 its kind, 3 the length of its body; 0 nothing.
+// Why a reading stops before its end: a record is cut, is of another kind, has a wrong length; the output is full. These
+// numbers mean nothing else.
+pub const CUT_SHORT: u8 = 60;
+
+pub const OTHER_KIND: u8 = 61;
+
+pub const WRONG_LENGTH: u8 = 62;
+
+pub const OUTPUT_FULL: u8 = 63;
+
+// What is wrong with a whole record: its kind, or the length of its body; 0 nothing.
 pub fn refusal(kind: u16, size: usize) -> u8
     ensures { λ r. ⌜ r ≡ kindRefusal kind size ⌝ }
 {
@@ -19,15 +29,15 @@ pub fn refusal(kind: u16, size: usize) -> u8
         if size == 0 {
             return 0;
         }
-        return 3;
+        return WRONG_LENGTH;
     }
     if kind == 18 {
         if size == 2 {
             return 0;
         }
-        return 3;
+        return WRONG_LENGTH;
     }
-    2
+    OTHER_KIND
 }
 
 // Puts the four numbers of an answer before the place of its command; the place behind that command.

@@ -7,7 +7,7 @@ use state::types::Run;
 #[repr(C)]
 pub struct Piece {
     pub run: Run,
-    // 0 all of it was read; 1, 2 or 3 the first bad record; 21 the output room
+    // 0 all of it was read; 60, 61 or 62 the first bad record; 63 the output is full; 20 the state breaks its rules
     pub stop: u8,
     // bytes of the recording that were read, events that were answered, bytes of the output that were written
     pub read: usize,

@@ -1,6 +1,7 @@
 // A session: standard input as a recording, piece by piece as the bytes come, each answer a line.
 use crate::input;
 use crate::lines;
+use replayrules::recording;
 use state::types::Config;
 use state::types::Run;
 
@@ -38,8 +39,22 @@ fn wanting(at: At, bytes: &mut [u8]) -> At {
     next
 }
 
-// One turn: the records that are there, as many as the output holds replies to, and their lines. Room is made by the next
-// turn, a record that is cut may be whole once more bytes are there, and any other stop is a bad record.
+// What follows a turn that stopped so: room is made by the next turn, a record that is cut may be whole once more bytes are
+// there, and any other stop but the end is a bad record.
+fn onward(at: At, stop: u8, bytes: &mut [u8]) -> At {
+    if stop == recording::OUTPUT_FULL {
+        return at;
+    }
+    if stop == recording::CUT_SHORT {
+        return wanting(at, bytes);
+    }
+    if stop != 0 {
+        return ended(at, true);
+    }
+    wanting(at, bytes)
+}
+
+// One turn: the records that are there, as many as the output holds replies to, and their lines.
 fn turn(config: Config, at: At, bytes: &mut [u8], out: &mut [u8]) -> At {
     let old = at.run;
     let piece = replay::replay::resume(config, old, input::part(bytes, at.start, at.end), out);
@@ -51,13 +66,7 @@ fn turn(config: Config, at: At, bytes: &mut [u8], out: &mut [u8]) -> At {
         end: at.end,
         more: true,
     };
-    if piece.stop == 21 {
-        return next;
-    }
-    if 1 < piece.stop {
-        return ended(next, true);
-    }
-    wanting(next, bytes)
+    onward(next, piece.stop, bytes)
 }
 
 // All of standard input. The turns count down from a number that no session uses up.

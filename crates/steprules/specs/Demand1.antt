@@ -1,19 +1,24 @@
 -- Demand 1 of the steps: what a refusal leaves as it was. Answers 20 and 21 change nothing at all; any answer but 10 changes
 -- no output byte; a rejected packet moves only R; a tick and a fault leave what they must.
-use mathlib.Core.Path.{_≡_, refl, sym}
-use mathlib.Core.Bool.{Bool}
+use mathlib.Core.Path.{_≡_, refl, sym, ap}
+use mathlib.Core.Bool.{Bool, true, false, cond, _&&_}
 use mathlib.Core.List.{List}
 use Prim.Native.Nat.{ℕ, _+_, _%_, _≤_}
 use native.Mathlib.Omega.{arith}
-use lib.Dec.{lit≤}
+use lib.Dec.{eqb, lit≤}
 use Rattle.packetrules.specs.Outcome.{Outcome, BadForm, not-version-0, not-telecommand, not-secondary, not-xor-0, below-6, not-whole, bad-form, no-room, too-many, taken}
 use Rattle.state.specs.declared.types.Config.{Config}
 use Rattle.state.specs.declared.types.Run.{Run}
 use Rattle.state.specs.declared.types.Counts.{Counts}
-use Rattle.state.specs.Tables.{Tables}
+use Rattle.state.specs.Tables.{Tables, tablesOf}
+use Rattle.state.specs.Test.{keepsRules}
 use Rattle.steprules.specs.declared.types.Stepped.{Stepped}
+use Rattle.faultstates.specs.FaultStates.{enabled, rowFor, stateFor}
+use Rattle.faultstates.specs.ActLaws.{non-latching-keeps}
+use Rattle.arming.specs.Arming.{tickAnswer}
 use Rattle.counters.specs.Counters.{rejectedCounts}
 use Rattle.dispatch.specs.DispatchLaws.{sent-not}
+use Rattle.steprules.specs.Bare.{unchanged}
 use Rattle.steprules.specs.Step.{packetOutput, packetStepOf, faultOutput, faultStepOf, tickStep, tickStepOf, rejectedStep}
 use Rattle.steprules.specs.Outcome.{Answered, stopped, miscounted, no-row, row-done, arm-taken, own-done, no-route, goes, Faulted, unlisted, quiet, responds, PacketSteps, packet-steps, FaultSteps, fault-steps, TickSteps, tick-steps}
 use Rattle.steprules.specs.Outcome as outcome
@@ -38,11 +43,11 @@ refused-range (taken a) z = absurd (z refl)
 -- an accepted packet gets none of 20 to 29
 pub answered-range : {t : Tables} {armed : Bool} {id : ℕ} {args : List ℕ} {n : ℕ} → Answered t armed id args n → 20 ≤ n → n ≤ 29 → ⊥
 answered-range (stopped a) h l = omega arith
-answered-range (miscounted a b c) h l = omega arith
-answered-range (no-row a b c d e) h l = omega arith
-answered-range (row-done a b c d e) h l = omega arith
-answered-range (arm-taken a b c d e) h l = omega arith
-answered-range (own-done a b c d e) h l = omega arith
+answered-range (miscounted a k b c) h l = omega arith
+answered-range (no-row a k b c d e) h l = omega arith
+answered-range (row-done a k b c d e) h l = omega arith
+answered-range (arm-taken a b c) h l = omega arith
+answered-range (own-done a k b c d e) h l = omega arith
 answered-range (no-route a b c) h l = omega arith
 answered-range (goes a b c) h l = omega arith
 
@@ -54,15 +59,31 @@ faulted-range (responds m s) h l = omega arith
 -- ---- 20 and 21 change nothing at all
 
 module _ (c : Config) (run : Run) (p : List ℕ) (room : ℕ) where
-  nothing : (r : Stepped) → PacketSteps c run p room r → 20 ≤ r .answer .answer → r .answer .answer ≤ 21 → r .run ≡ run
+  nothing : (r : Stepped) → PacketSteps c run p room r → 20 ≤ r .answer .answer → r .answer .answer ≤ 21 → r ≡ unchanged run (r .answer .answer)
   unfolding rejectedStep
   nothing r (outcome.breaks e) h l = refl
   nothing r (outcome.cramped e q) h l = refl
   nothing r (outcome.rejects e q n o z) h l = absurd (omega (arith, refused-range o z))
   nothing r (outcome.does e q a n o) h l = absurd (answered-range o h (omega arith))
 
+  -- the run as it was, and every number of the answer zero but the refusal
+  pub packet-refused-unchanged : 20 ≤ packetStepOf c run p room .answer .answer → packetStepOf c run p room .answer .answer ≤ 21
+      → packetStepOf c run p room ≡ unchanged run (packetStepOf c run p room .answer .answer)
+  packet-refused-unchanged = nothing (packetStepOf c run p room) (packet-steps c run p room)
+
   pub packet-refused-changes-nothing : 20 ≤ packetStepOf c run p room .answer .answer → packetStepOf c run p room .answer .answer ≤ 21 → packetStepOf c run p room .run ≡ run
-  packet-refused-changes-nothing = nothing (packetStepOf c run p room) (packet-steps c run p room)
+  packet-refused-changes-nothing h l = ap (λ (s : Stepped). s .run) (packet-refused-unchanged h l)
+
+  -- 20 is given only where the state breaks its rules
+  only-broken : (r : Stepped) → PacketSteps c run p room r → r .answer .answer ≡ 20 → keepsRules c run ≡ false
+  unfolding rejectedStep
+  only-broken r (outcome.breaks e) h = e
+  only-broken r (outcome.cramped e q) h = absurd (omega arith)
+  only-broken r (outcome.rejects e q n o z) h = absurd (omega (arith, refused-range o z))
+  only-broken r (outcome.does e q a n o) h = absurd (answered-range o (omega arith) (omega arith))
+
+  pub packet-20-broken : packetStepOf c run p room .answer .answer ≡ 20 → keepsRules c run ≡ false
+  packet-20-broken = only-broken (packetStepOf c run p room) (packet-steps c run p room)
 
   -- a rejected packet (22 to 29) moves only the rejected count
   only-r : (r : Stepped) → PacketSteps c run p room r → 22 ≤ r .answer .answer → r .answer .answer ≤ 29 → r .run ≡ record { arm = run .arm; counts = rejectedCounts (run .counts); states = run .states }
@@ -82,13 +103,25 @@ unfolding rejectedCounts
 rejected-counts-are k = refl
 
 module _ (c : Config) (run : Run) (f room : ℕ) where
-  nothing-f : (r : Stepped) → FaultSteps c run f room r → 20 ≤ r .answer .answer → r .answer .answer ≤ 21 → r .run ≡ run
+  nothing-f : (r : Stepped) → FaultSteps c run f room r → 20 ≤ r .answer .answer → r .answer .answer ≤ 21 → r ≡ unchanged run (r .answer .answer)
   nothing-f r (outcome.breaks e) h l = refl
   nothing-f r (outcome.cramped e q) h l = refl
   nothing-f r (outcome.does e q n o) h l = absurd (faulted-range o h l)
 
+  pub fault-refused-unchanged : 20 ≤ faultStepOf c run f room .answer .answer → faultStepOf c run f room .answer .answer ≤ 21
+      → faultStepOf c run f room ≡ unchanged run (faultStepOf c run f room .answer .answer)
+  fault-refused-unchanged = nothing-f (faultStepOf c run f room) (fault-steps c run f room)
+
   pub fault-refused-changes-nothing : 20 ≤ faultStepOf c run f room .answer .answer → faultStepOf c run f room .answer .answer ≤ 21 → faultStepOf c run f room .run ≡ run
-  fault-refused-changes-nothing = nothing-f (faultStepOf c run f room) (fault-steps c run f room)
+  fault-refused-changes-nothing h l = ap (λ (s : Stepped). s .run) (fault-refused-unchanged h l)
+
+  only-broken-f : (r : Stepped) → FaultSteps c run f room r → r .answer .answer ≡ 20 → keepsRules c run ≡ false
+  only-broken-f r (outcome.breaks e) h = e
+  only-broken-f r (outcome.cramped e q) h = absurd (omega arith)
+  only-broken-f r (outcome.does e q n o) h = absurd (faulted-range o (omega arith) (omega arith))
+
+  pub fault-20-broken : faultStepOf c run f room .answer .answer ≡ 20 → keepsRules c run ≡ false
+  fault-20-broken = only-broken-f (faultStepOf c run f room) (fault-steps c run f room)
 
   -- a fault leaves the arm record, whatever its answer
   same-arm : (r : Stepped) → FaultSteps c run f room r → r .run .arm ≡ run .arm
@@ -110,8 +143,43 @@ module _ (c : Config) (run : Run) (f room : ℕ) where
   pub undispatched-fault-leaves-states : (faultStepOf c run f room .answer .answer ≡ 10 → ⊥) → faultStepOf c run f room .run .states ≡ run .states
   undispatched-fault-leaves-states = same-states (faultStepOf c run f room) (fault-steps c run f room)
 
--- a tick leaves the counters and the fault states, whatever its answer
+  -- nor does a fault of a row that doesn't latch, whatever its answer
+  same-unlatched : rowFor f (tablesOf c .rows) .latching ≡ 0 → (r : Stepped) → FaultSteps c run f room r → r .run .states ≡ run .states
+  same-unlatched z r (outcome.breaks e) = refl
+  same-unlatched z r (outcome.cramped e q) = refl
+  same-unlatched z r (outcome.does e q n (unlisted m)) = refl
+  same-unlatched z r (outcome.does e q n (quiet m s)) = refl
+  same-unlatched z r (outcome.does e q n (responds m s)) = non-latching-keeps f (tablesOf c .rows) (run .states) z
+
+  pub non-latching-leaves-states : rowFor f (tablesOf c .rows) .latching ≡ 0 → faultStepOf c run f room .run .states ≡ run .states
+  non-latching-leaves-states z = same-unlatched z (faultStepOf c run f room) (fault-steps c run f room)
+
+  -- so a row that doesn't latch stays enabled
+  pub non-latching-stays : rowFor f (tablesOf c .rows) .latching ≡ 0 → stateFor f (tablesOf c .rows) (run .states) ≡ enabled
+      → stateFor f (tablesOf c .rows) (faultStepOf c run f room .run .states) ≡ enabled
+  non-latching-stays z e = rw (non-latching-leaves-states z) e
+
 module _ (c : Config) (run : Run) where
+  only-broken-t : (r : Stepped) → TickSteps c run r → r .answer .answer ≡ 20 → (keepsRules c run ≡ false) × (r ≡ unchanged run 20)
+  unfolding tickStep tickAnswer
+  only-broken-t r (outcome.breaks e) h = (e, refl)
+  only-broken-t r (outcome.does e) h = absurd (go (run .arm .armed && eqb (run .arm .ticks) 1) h)
+    where
+      go : (b : Bool) → _≡_ {A = ℕ} (cond b 15 14) 20 → ⊥
+      go true h = omega arith
+      go false h = omega arith
+
+  pub tick-20-broken : tickStepOf c run .answer .answer ≡ 20 → keepsRules c run ≡ false
+  tick-20-broken h = only-broken-t (tickStepOf c run) (tick-steps c run) h .0
+
+  -- a tick that is answered 20 changes nothing at all
+  pub tick-refused-unchanged : tickStepOf c run .answer .answer ≡ 20 → tickStepOf c run ≡ unchanged run 20
+  tick-refused-unchanged h = only-broken-t (tickStepOf c run) (tick-steps c run) h .1
+
+  pub tick-refused-changes-nothing : tickStepOf c run .answer .answer ≡ 20 → tickStepOf c run .run ≡ run
+  tick-refused-changes-nothing h = ap (λ (s : Stepped). s .run) (tick-refused-unchanged h)
+
+  -- a tick leaves the counters and the fault states, whatever its answer
   keeps-rest : (r : Stepped) → TickSteps c run r → (r .run .counts ≡ run .counts) × (r .run .states ≡ run .states)
   unfolding tickStep
   keeps-rest r (outcome.breaks e) = (refl, refl)

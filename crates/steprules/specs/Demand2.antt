@@ -78,11 +78,11 @@ module _ (c : Config) (run : Run) (p : List ℕ) (room : ℕ) where
   dispatched-as r (outcomes.cramped e q) h = absurd (omega arith)
   dispatched-as r (outcomes.rejects e q n o z) h = absurd (omega (arith, refused-range o z))
   dispatched-as r (outcomes.does e q a n (stopped b)) h = absurd (omega arith)
-  dispatched-as r (outcomes.does e q a n (miscounted b d f)) h = absurd (omega arith)
-  dispatched-as r (outcomes.does e q a n (no-row b d f g i)) h = absurd (omega arith)
-  dispatched-as r (outcomes.does e q a n (row-done b d f g i)) h = absurd (omega arith)
-  dispatched-as r (outcomes.does e q a n (arm-taken b d f g i)) h = absurd (omega arith)
-  dispatched-as r (outcomes.does e q a n (own-done b d f g i)) h = absurd (omega arith)
+  dispatched-as r (outcomes.does e q a n (miscounted b k d f)) h = absurd (omega arith)
+  dispatched-as r (outcomes.does e q a n (no-row b k d f g i)) h = absurd (omega arith)
+  dispatched-as r (outcomes.does e q a n (row-done b k d f g i)) h = absurd (omega arith)
+  dispatched-as r (outcomes.does e q a n (arm-taken b d f)) h = absurd (omega arith)
+  dispatched-as r (outcomes.does e q a n (own-done b k d f g i)) h = absurd (omega arith)
   dispatched-as r (outcomes.does e q a n (no-route b d f)) h = absurd (omega arith)
   dispatched-as r (outcomes.does e q a n (goes b d f)) h = record { let-past = b; is-routed = f; id-is = refl; dest-is = refl; written-is = refl }
 

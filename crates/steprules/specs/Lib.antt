@@ -9,6 +9,7 @@ pub mod Demand1
 pub mod RulesKept
 pub mod Demand2
 pub mod Excluded
+pub mod RowCommands
 pub mod Moved
 pub mod MovedLaws
 pub mod MovedOn

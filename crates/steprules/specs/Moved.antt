@@ -2,10 +2,12 @@
 -- the states that it leaves are the step of document 01, for every configuration that has the lent columns.
 use mathlib.Core.Path.{_≡_}
 use mathlib.Core.Bool.{Bool, true, false, _&&_}
+use mathlib.Core.Option.{Option, some}
 use mathlib.Core.List.{List}
 use Prim.Native.Nat.{ℕ, _+_, _*_, _<_, _≤_}
 use lib.Dec.{eqb}
 use lib.ListN.{length, getD, take}
+use Rattle.wire.specs.Check.{check}
 use Rattle.state.specs.declared.types.Numbers.{Numbers}
 use Rattle.state.specs.declared.types.Config.{Config}
 use Rattle.state.specs.declared.types.Arm.{Arm}
@@ -22,9 +24,11 @@ use Rattle.steprules.specs.Bare.{bareAnswer}
 use Rattle.arming.specs.Arming.{armAfter}
 use Rattle.counters.specs.Counters.{movedCounts, faultCounts}
 use Rattle.dispatch.specs.Dispatch.{for10}
+use Rattle.answers.specs.declared.own.Own.{Own}
+use Rattle.answers.specs.Own.{isReset, faultArg}
 use Rattle.answers.specs.Answers.{ownAnswer}
 use Rattle.steprules.specs.Step.{packetStep, packetOutput, faultStep, faultOutput}
-use Rattle.steprules.specs.StateLaws.{statesOn}
+use Rattle.steprules.specs.StateLaws.{actById, statesOn}
 
 -- no state is above 2, so that each has its row in the table of events
 pub record StatesLent (states : List ℕ) : Type 0 where
@@ -33,12 +37,12 @@ pub record StatesLent (states : List ℕ) : Type 0 where
 
 -- ---- a packet
 
--- an accepted packet that gets the answer n; k is the own number of its id
-abbrev pub movedBy : ℕ → ℕ → ℕ → List ℕ → ℕ → Moved
+-- an accepted packet that gets the answer n; k is what its id selects
+abbrev pub movedBy : ℕ → Option Own → ℕ → List ℕ → ℕ → Moved
 movedBy n k id args dest =
     record {
       arm = armAfter n args;
-      reset = eqb n 12 && eqb k 1;
+      reset = eqb n 12 && isReset k;
       answer = record { answer = n; id = id; dest = for10 n dest; written = for10 n (5 + length args) };
     }
 
@@ -51,9 +55,14 @@ abbrev pub rejectedBy : Arm → ℕ → Moved
 rejectedBy arm n = record { arm = arm; reset = false; answer = bareAnswer n }
 
 -- an own command: what it hands back, and the states that it leaves
-pub record OwnMoves (ids : List ℕ) (k id : ℕ) (args before : List ℕ) (r : Moved) (after : List ℕ) : Type 0 where
-  pub moved : r ≡ movedBy (ownAnswer ids k args) k id args 0
-  pub states : after ≡ statesOn ids (ownAnswer ids k args) k args before
+pub record OwnMoves (ids : List ℕ) (k : Own) (id : ℕ) (args before : List ℕ) (r : Moved) (after : List ℕ) : Type 0 where
+  pub moved : r ≡ movedBy (ownAnswer ids k args) (some k) id args 0
+  pub states : after ≡ statesOn ids (ownAnswer ids k args) (some k) args before
+
+-- an event on the row of the fault id in the arguments, which takes two: 32 where no row has it
+pub record RowMoves (ids : List ℕ) (e id : ℕ) (args before : List ℕ) (r : Moved) (after : List ℕ) : Type 0 where
+  pub moved : r ≡ quietly (check (member (faultArg args) ids) 32 12) id args false
+  pub states : after ≡ actById e (faultArg args) ids before
 
 -- the step that it was, on counters that the caller had
 abbrev pub leftBy : Counts → Moved → List ℕ → Stepped

@@ -1,10 +1,12 @@
 -- Laws of what a packet step hands back: each way of an own command, and each way of a packet.
 use mathlib.Core.Path.{_≡_, refl, sym, ap, _∙_}
-use mathlib.Core.Bool.{Bool, true, false, cond, not, _&&_, _||_}
+use mathlib.Core.Bool.{Bool, true, false, cond, not, _&&_, _||_, false≢true}
+use mathlib.Core.Logic.{_⊎_, inl, inr}
+use mathlib.Core.Option.{Option, none, some}
 use mathlib.Core.List.{List, map}
 use Prim.Native.Nat.{ℕ, _+_, _-_, _<_, _≤_}
 use native.Mathlib.Omega.{arith}
-use lib.Dec.{eqb, ltb}
+use lib.Dec.{eqb}
 use lib.ListN.{length, getD, set, take}
 use lib.Seq.{length-take-le}
 use borrow.Author.Tests.{eq-eqb, ne-eqb, leb-true, le-leb, lt-leb}
@@ -27,76 +29,91 @@ use Rattle.arming.specs.Arming.{armAfter}
 use Rattle.counters.specs.Counters.{noCounts, accepted, rejection, packetCounts, rejectedCounts, movedCounts}
 use Rattle.dispatch.specs.Dispatch.{for10, destOf, sent, over, commandBytes}
 use Rattle.dispatch.specs.DispatchLaws.{sent-not, sent-10}
-use Rattle.faultstates.specs.FaultStates.{nextState, clearAll}
-use Rattle.answers.specs.Own.{ownNumber, argsWanted, onRow, faultArg}
+use Rattle.faultstates.specs.FaultStates.{nextState}
+use Rattle.answers.specs.declared.own.Own.{Own}
+use Rattle.answers.specs.Own.{ruleOf, ownCommand, isReset, faultArg}
 use Rattle.answers.specs.Answers.{blocked, ownAnswer, routeAnswer, answerFor}
-use Rattle.answers.specs.OwnLaws.{own-31, own-32, own-row, own-arm, own-other, own-not-10, row-range}
+use Rattle.answers.specs.OwnLaws.{done-is, resets-12, own-31, own-32, own-row, own-taken, own-not-10}
 use Rattle.answers.specs.AnswerLaws.{answer-30, answer-own, answer-route, Lent, route-none, route-found, route-dest}
-use Rattle.steprules.specs.Step.{acceptedStep, rejectedStep, packetStep, packetOutput}
-use Rattle.steprules.specs.StateLaws.{statesOn, states-long, states-same, states-row, states-clear, states-rest}
+use Rattle.steprules.specs.Step.{statesBy, acceptedStep, rejectedStep, packetStep, packetOutput}
+use Rattle.steprules.specs.StateLaws.{actById, act-absent, act-at, statesOn, states-long, states-same, states-12, states-done}
 use Rattle.steprules.specs.StepLaws.{accepted-is, packet-rejected, packet-accepted}
-use Rattle.steprules.specs.Moved.{movedBy, quietly, rejectedBy, OwnMoves, leftBy, PacketMoves}
+use Rattle.steprules.specs.Moved.{movedBy, quietly, rejectedBy, OwnMoves, RowMoves, leftBy, PacketMoves}
 
 -- ---- an answer that sends nothing on
 
-quiet-is : (n k id : ℕ) (args : List ℕ) (dest : ℕ) (reset : Bool) → (n ≡ 10 → ⊥) → reset ≡ (eqb n 12 && eqb k 1) → quietly n id args reset ≡ movedBy n k id args dest
+quiet-is : (n : ℕ) (k : Option Own) (id : ℕ) (args : List ℕ) (dest : ℕ) (reset : Bool) → (n ≡ 10 → ⊥) → reset ≡ (eqb n 12 && isReset k) → quietly n id args reset ≡ movedBy n k id args dest
 quiet-is n k id args dest reset a e = simp (ne-eqb n 10 a, e)
 
 -- ---- an own command
 
-module _ (ids : List ℕ) (k id : ℕ) (args ss : List ℕ) where
-  -- an answer that changes no state
-  still : (n : ℕ) → n ≡ ownAnswer ids k args → (n ≡ 12 → ⊥) → OwnMoves ids k id args ss (quietly n id args false) ss
-  still n e h =
-      record {
-        moved =
-            rw e
-            (quiet-is (ownAnswer ids k args) k id args 0 false
-            (λ z. let q : _≡_ {A = Bool} true false = sym (eq-eqb _ 10 z) ∙ own-not-10 ids k args in let y : _≡_ {A = ℕ} 0 1 = cc in omega arith)
-            (rw (ne-eqb (ownAnswer ids k args) 12 (λ z. h (e ∙ z)))));
-        states = states-same ids (ownAnswer ids k args) k args ss (λ z. h (e ∙ z));
-      }
+module _ (ids : List ℕ) (id : ℕ) (args ss : List ℕ) where
+  module _ (k : Own) where
+    not-sent-on : ownAnswer ids k args ≡ 10 → ⊥
+    not-sent-on z = false≢true (sym (own-not-10 ids k args) ∙ eq-eqb _ 10 z)
 
-  pub own-moves-31 : (length args ≡ argsWanted k → ⊥) → OwnMoves ids k id args ss (quietly 31 id args false) ss
-  own-moves-31 h = still 31 (own-31 ids k args h) (λ e. omega arith)
-
-  module _ (e : length args ≡ argsWanted k) where
-    pub own-moves-32 : onRow k ≡ true → member (faultArg args) ids ≡ false → OwnMoves ids k id args ss (quietly 32 id args false) ss
-    own-moves-32 r h = still 32 (own-32 ids k args e r h) (λ e. omega arith)
-
-    pub own-moves-arm : onRow k ≡ false → k ≡ 0 → OwnMoves ids k id args ss (quietly 11 id args false) ss
-    own-moves-arm r z = still 11 (own-arm ids k args e r z) (λ e. omega arith)
-
-    -- 12
-    done : (reset : Bool) (left : List ℕ) → 12 ≡ ownAnswer ids k args → reset ≡ eqb k 1 → left ≡ statesOn ids 12 k args ss → OwnMoves ids k id args ss (quietly 12 id args reset) left
-    done reset left n q s =
+    -- an answer that changes no state
+    still : (n : ℕ) → n ≡ ownAnswer ids k args → (n ≡ 12 → ⊥) → OwnMoves ids k id args ss (quietly n id args false) ss
+    still n e h =
         record {
-          moved = rw (← n) (quiet-is 12 k id args 0 reset (λ e. omega arith) q);
-          states = rw (← n) s;
+          moved = rw e (quiet-is (ownAnswer ids k args) (some k) id args 0 false not-sent-on (rw (ne-eqb (ownAnswer ids k args) 12 (λ z. h (e ∙ z)))));
+          states = states-same ids args ss (ownAnswer ids k args) (some k) (λ z. h (e ∙ z));
         }
 
-    pub own-moves-reset : onRow k ≡ false → k ≡ 1 → OwnMoves ids k id args ss (quietly 12 id args true) ss
-    own-moves-reset r z =
-        done true ss (own-other ids k args e r (λ q. omega arith)) (sym (eq-eqb k 1 z)) (states-rest ids 12 k args ss refl r (λ q. omega arith))
+    pub own-moves-31 : (length args ≡ ruleOf k .wanted → ⊥) → OwnMoves ids k id args ss (quietly 31 id args false) ss
+    own-moves-31 h = still 31 (own-31 ids k args h) (λ e. omega arith)
 
-    pub own-moves-clear : onRow k ≡ false → k ≡ 7 → OwnMoves ids k id args ss (quietly 12 id args false) (clearAll ss)
-    own-moves-clear r z =
-        done false (clearAll ss) (own-other ids k args e r (λ q. omega arith)) (sym (ne-eqb k 1 (λ q. omega arith))) (states-clear ids 12 k args ss refl r z)
+  -- a command that is known, with as many arguments as it takes
+  module _ {command : Own} (e : length args ≡ ruleOf command .wanted) (k : Own) (known : command ≡ k) where
+    counted : length args ≡ ruleOf k .wanted
+    counted = e ∙ ap (λ (c : Own). ruleOf c .wanted) known
 
-    pub own-moves-rest : onRow k ≡ false → (k ≡ 0 → ⊥) × (k ≡ 1 → ⊥) × (k ≡ 7 → ⊥) → OwnMoves ids k id args ss (quietly 12 id args false) ss
-    own-moves-rest r (a, b, c) = done false ss (own-other ids k args e r a) (sym (ne-eqb k 1 b)) (states-rest ids 12 k args ss refl r c)
+    -- one that acts on no row is done
+    pub own-moves-off : ruleOf k .onRow ≡ false → OwnMoves ids command id args ss (quietly (ruleOf k .done) id args (ruleOf k .resets)) (statesBy (λ e. actById e (faultArg args) ids ss) k ss)
+    own-moves-off r =
+        let n = own-taken ids k args counted r in
+        rw known
+        (record {
+          moved = rw (← n) (quiet-is (ruleOf k .done) (some k) id args 0 (ruleOf k .resets) (λ z. not-sent-on k (sym n ∙ z)) (resets-12 k));
+          states = rw (← n) (states-done ids args ss k);
+        })
 
-    pub own-moves-row : (place v : ℕ) → onRow k ≡ true → member (faultArg args) ids ≡ true → place ≡ placeIn (faultArg args) ids → (place < length ids) × (length ids ≤ length ss) → v ≡ nextState (getD ss place 0) (k - 4) → OwnMoves ids k id args ss (quietly 12 id args false) (set ss place v)
-    own-moves-row place v r m q w x =
-        done false (set ss place v) (own-row ids k args e r m) (sym (ne-eqb k 1 (λ z. omega (arith, row-range k r)))) (states-row ids 12 k args ss refl place v (faultArg args) r refl q w x)
+    -- one that acts on a row does so by its event
+    pub own-moves-on : (event : ℕ) → ruleOf k .onRow ≡ true → ruleOf k .resets ≡ false → statesBy (λ e. actById e (faultArg args) ids ss) k ss ≡ actById event (faultArg args) ids ss
+        → {r : Moved} {after : List ℕ} → RowMoves ids event id args ss r after → OwnMoves ids command id args ss r after
+    own-moves-on event o q b {r} {after} m = rw known (go (member (faultArg args) ids) refl)
+      where
+        go : (f : Bool) → member (faultArg args) ids ≡ f → OwnMoves ids k id args ss r after
+        go false f =
+            let s = still k 32 (own-32 ids k args counted o f) (λ e. omega arith) in
+            record { moved = m .moved ∙ rw f (s .moved); states = m .states ∙ act-absent event (faultArg args) ids ss f ∙ s .states }
+        go true f =
+            let n = own-row ids k args counted o f in
+            record {
+              moved = m .moved ∙ rw f (rw (← n) (quiet-is 12 (some k) id args 0 false (λ z. omega arith) (sym q)));
+              states = m .states ∙ rw (← n) (sym b ∙ states-12 ids args ss k);
+            }
+
+  -- the row at the place found, and no row where none is found
+  module _ (event : ℕ) where
+    pub row-moves-32 : member (faultArg args) ids ≡ false → RowMoves ids event id args ss (quietly 32 id args false) ss
+    row-moves-32 f = record { moved = rw f; states = sym (act-absent event (faultArg args) ids ss f) }
+
+    pub row-moves-12 : (place v : ℕ) → member (faultArg args) ids ≡ true → place ≡ placeIn (faultArg args) ids → (place < length ids) × (length ids ≤ length ss) → v ≡ nextState (getD ss place 0) event
+        → RowMoves ids event id args ss (quietly 12 id args false) (set ss place v)
+    row-moves-12 place v f q (h, l) w =
+        record {
+          moved = rw f;
+          states = rw (w, q) (act-at event (faultArg args) ids ss (omega (arith, q)) l);
+        }
 
 -- ---- the counters
 
-counts-accepted : (n k : ℕ) (c : Counts) → rejection n ≡ false → movedCounts n (eqb n 12 && eqb k 1) c ≡ packetCounts n k c
+counts-accepted : (n : ℕ) (k : Option Own) (c : Counts) → rejection n ≡ false → movedCounts n (eqb n 12 && isReset k) c ≡ packetCounts n (isReset k) c
 unfolding movedCounts packetCounts
 counts-accepted n k c h = go (eqb n 12) refl
   where
-    go : (b : Bool) → eqb n 12 ≡ b → cond (rejection n) (rejectedCounts c) (cond (eqb n 12 && (eqb n 12 && eqb k 1)) noCounts (accepted n c)) ≡ cond (eqb n 12 && eqb k 1) noCounts (accepted n c)
+    go : (b : Bool) → eqb n 12 ≡ b → cond (rejection n) (rejectedCounts c) (cond (eqb n 12 && (eqb n 12 && isReset k)) noCounts (accepted n c)) ≡ cond (eqb n 12 && isReset k) noCounts (accepted n c)
     go true e = rw (h, e) refl
     go false e = rw (h, e) refl
 
@@ -104,19 +121,23 @@ counts-rejected : (n : ℕ) (c : Counts) → rejection n ≡ true → movedCount
 unfolding movedCounts
 counts-rejected n c h = rw h
 
-no-rejection : (routed protected ids : List ℕ) (armed : Bool) (id k : ℕ) (args : List ℕ) → rejection (answerFor routed protected ids armed id k args) ≡ false
+no-rejection : (routed protected ids : List ℕ) (armed : Bool) (id : ℕ) (k : Option Own) (args : List ℕ) → rejection (answerFor routed protected ids armed id k args) ≡ false
 unfolding answerFor ownAnswer routeAnswer
-no-rejection routed protected ids armed id k args =
-    go (blocked protected armed id) (ltb k 8) (eqb (length args) (argsWanted k)) (not (onRow k) || member (faultArg args) ids) (eqb k 0) (member id routed)
+no-rejection routed protected ids armed id none args = go (blocked protected armed id) (member id routed)
   where
-    go : (a l b d e m : Bool) → rejection (check (not a) 30 (cond l (check b 31 (check d 32 (cond e 11 12))) (check m 33 10))) ≡ false
-    go true l b d e m = refl
-    go false true false d e m = refl
-    go false true true false e m = refl
-    go false true true true true m = refl
-    go false true true true false m = refl
-    go false false b d e true = refl
-    go false false b d e false = refl
+    go : (a m : Bool) → rejection (check (not a) 30 (check m 33 10)) ≡ false
+    go true m = refl
+    go false true = refl
+    go false false = refl
+no-rejection routed protected ids armed id (some k) args =
+    go (blocked protected armed id) (eqb (length args) (ruleOf k .wanted)) (not (ruleOf k .onRow) || member (faultArg args) ids) (done-is k)
+  where
+    go : (a b d : Bool) → (ruleOf k .done ≡ 11) ⊎ (ruleOf k .done ≡ 12) → rejection (check (not a) 30 (check b 31 (check d 32 (ruleOf k .done)))) ≡ false
+    go true b d e = refl
+    go false false d e = refl
+    go false true false e = refl
+    go false true true (inl e) = rw e
+    go false true true (inr e) = rw e
 
 bad-rejects : {s : List ℕ} {n : ℕ} → BadForm s n → rejection n ≡ true
 bad-rejects (not-version-0 h) = refl
@@ -160,7 +181,7 @@ module _ (c : Config) (l : Lent (c .numbers) (c .routeids) (c .dests) (c .protec
         long = refl;
       }
 
-  module _ {id k : ℕ} {args : List ℕ} (z : refusalOf p ≡ 0) (ei : id ≡ commandId p) (ea : args ≡ argumentsOf p) (ek : k ≡ ownNumber (c .numbers .base) id) where
+  module _ {id : ℕ} {k : Option Own} {args : List ℕ} (z : refusalOf p ≡ 0) (ei : id ≡ commandId p) (ea : args ≡ argumentsOf p) (ek : k ≡ ownCommand (c .numbers .base) id) where
     moves-accepted : {n : ℕ} {r : Moved} {after left : List ℕ}
         → n ≡ answerFor routed-ids protected-ids fault-ids (arm .armed) id k args
         → r ≡ movedBy n k id args (destOf id (tablesOf c .routes))
@@ -188,27 +209,27 @@ module _ (c : Config) (l : Lent (c .numbers) (c .routeids) (c .dests) (c .protec
     moves-quiet n (a, b) en =
         moves-accepted en
         (quiet-is n k id args (destOf id (tablesOf c .routes)) false a (rw (ne-eqb n 12 b)))
-        (states-same fault-ids n k args before b)
+        (states-same fault-ids args before n k b)
         (sent-not n (c .numbers .ground) id args out a)
 
     pub moves-30 : blocked protected-ids (arm .armed) id ≡ true → PacketMoves c arm before p out (quietly 30 id args false) before out
     moves-30 b = moves-quiet 30 (λ e. omega arith, λ e. omega arith) (answer-30 _ _ _ _ _ _ _ b)
 
     module _ (b : blocked protected-ids (arm .armed) id ≡ false) where
-      pub moves-own : {r : Moved} {after : List ℕ} → k < 8 → OwnMoves fault-ids k id args before r after → PacketMoves c arm before p out r after out
-      moves-own h o =
-          let t : eqb (ownAnswer fault-ids k args) 10 ≡ false = own-not-10 fault-ids k args in
-          moves-accepted (answer-own _ _ _ _ _ _ _ b h) (o .moved ∙ rw t) (o .states) (sent-not _ (c .numbers .ground) id args out (λ e. let q : _≡_ {A = Bool} true false = sym (eq-eqb _ 10 e) ∙ t in let y : _≡_ {A = ℕ} 0 1 = cc in omega arith))
+      pub moves-own : {r : Moved} {after : List ℕ} (o : Own) → k ≡ some o → OwnMoves fault-ids o id args before r after → PacketMoves c arm before p out r after out
+      moves-own o q m =
+          let t : eqb (ownAnswer fault-ids o args) 10 ≡ false = own-not-10 fault-ids o args in
+          moves-accepted (answer-own _ _ _ _ _ _ o q b) (m .moved ∙ rw (t, q)) (m .states ∙ rw (← q)) (sent-not _ (c .numbers .ground) id args out (λ e. false≢true (sym t ∙ eq-eqb _ 10 e)))
 
-      module _ (h : 8 ≤ k) {at : ℕ} (f : at ≡ placeIn id routed-ids) where
+      module _ (h : k ≡ none) {at : ℕ} (f : at ≡ placeIn id routed-ids) where
         pub moves-33 : c .numbers .nroutes ≤ at → PacketMoves c arm before p out (quietly 33 id args false) before out
         moves-33 g =
-            moves-quiet 33 (λ e. omega arith, λ e. omega arith) (route-none (l .route-ids) id at f g ∙ answer-route _ _ _ _ _ _ _ b h)
+            moves-quiet 33 (λ e. omega arith, λ e. omega arith) (route-none (l .route-ids) id at f g ∙ answer-route _ _ _ _ _ _ h b)
 
         pub moves-10 : (written : ℕ) (left : List ℕ) → at < c .numbers .nroutes → (written ≡ 5 + length args) × (left ≡ over (commandBytes (c .numbers .ground) id args) out)
             → PacketMoves c arm before p out (record { arm = armAfter 10 args; reset = false; answer = record { answer = 10; id = id; dest = getD (c .dests) at 0; written = written } }) before left
         moves-10 written left g (w, o) =
-            moves-accepted {n = 10} (route-found (l .route-ids) id at f g ∙ answer-route _ _ _ _ _ _ _ b h)
+            moves-accepted {n = 10} (route-found (l .route-ids) id at f g ∙ answer-route _ _ _ _ _ _ h b)
             (rw (w, route-dest (l .route-ids) id at f (c .dests) g))
-            (states-same fault-ids 10 k args before (λ e. omega arith))
+            (states-same fault-ids args before 10 k (λ e. omega arith))
             (o ∙ sent-10 10 (c .numbers .ground) id args out refl)

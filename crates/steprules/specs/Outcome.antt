@@ -1,6 +1,8 @@
 -- The answers read as statements: what each answer to an accepted packet, to a fault and to any step says, in both directions.
-use mathlib.Core.Path.{_≡_, refl, _∙_}
+use mathlib.Core.Path.{_≡_, refl, sym, ap, _∙_}
 use mathlib.Core.Bool.{Bool, true, false}
+use mathlib.Core.Logic.{_⊎_, inl, inr}
+use mathlib.Core.Option.{Option, none, some}
 use mathlib.Core.List.{List, map}
 use Prim.Native.Nat.{ℕ, _<_, _≤_}
 use lib.Dec.{eqb, leb, ltb}
@@ -18,9 +20,11 @@ use Rattle.state.specs.Test.{keepsRules}
 use Rattle.steprules.specs.declared.types.Stepped.{Stepped}
 use Rattle.steprules.specs.Bare.{unchanged}
 use Rattle.faultstates.specs.FaultStates.{enabled, stateFor}
-use Rattle.answers.specs.Own.{ownNumber, argsWanted, onRow, faultArg}
+use Rattle.answers.specs.declared.own.Own.{Own}
+use Rattle.answers.specs.declared.own.Own.the-variants.{Arm}
+use Rattle.answers.specs.Own.{ruleOf, ownCommand, faultArg}
 use Rattle.answers.specs.Answers.{blocked, routeAnswer, answerTo, faultAnswer}
-use Rattle.answers.specs.OwnLaws.{own-31, own-32, own-row, own-arm, own-other}
+use Rattle.answers.specs.OwnLaws.{done-is, done-11, own-31, own-32, own-row, own-taken}
 use Rattle.answers.specs.AnswerLaws.{answer-30, answer-own, answer-route, fault-34, fault-13, fault-10}
 use Rattle.steprules.specs.Step.{acted, acceptedStep, rejectedStep, packetStepOf, faulted, faultStep, faultStepOf, tickStep, tickStepOf}
 use Rattle.steprules.specs.StepLaws.{packet-rejected, packet-accepted}
@@ -31,63 +35,62 @@ pub data Answered (t : Tables) (armed : Bool) (id : ℕ) (args : List ℕ) : ℕ
   -- protected and unarmed
   stopped : blocked (t .protected) armed id ≡ true → Answered t armed id args 30
   -- own command, wrong argument count
-  miscounted : blocked (t .protected) armed id ≡ false → ownNumber (t .base) id < 8 → (length args ≡ argsWanted (ownNumber (t .base) id) → ⊥) → Answered t armed id args 31
+  miscounted : blocked (t .protected) armed id ≡ false → (k : Own) → ownCommand (t .base) id ≡ some k → (length args ≡ ruleOf k .wanted → ⊥) → Answered t armed id args 31
   -- own command, fault id not in the table
-  no-row : blocked (t .protected) armed id ≡ false → ownNumber (t .base) id < 8 → length args ≡ argsWanted (ownNumber (t .base) id) → onRow (ownNumber (t .base) id) ≡ true → member (faultArg args) (map faultId (t .rows)) ≡ false → Answered t armed id args 32
+  no-row : blocked (t .protected) armed id ≡ false → (k : Own) → ownCommand (t .base) id ≡ some k → length args ≡ ruleOf k .wanted → ruleOf k .onRow ≡ true → member (faultArg args) (map faultId (t .rows)) ≡ false → Answered t armed id args 32
   -- own command done on a row
-  row-done : blocked (t .protected) armed id ≡ false → ownNumber (t .base) id < 8 → length args ≡ argsWanted (ownNumber (t .base) id) → onRow (ownNumber (t .base) id) ≡ true → member (faultArg args) (map faultId (t .rows)) ≡ true → Answered t armed id args 12
+  row-done : blocked (t .protected) armed id ≡ false → (k : Own) → ownCommand (t .base) id ≡ some k → length args ≡ ruleOf k .wanted → ruleOf k .onRow ≡ true → member (faultArg args) (map faultId (t .rows)) ≡ true → Answered t armed id args 12
   -- arm taken
-  arm-taken : blocked (t .protected) armed id ≡ false → ownNumber (t .base) id < 8 → length args ≡ argsWanted (ownNumber (t .base) id) → onRow (ownNumber (t .base) id) ≡ false → ownNumber (t .base) id ≡ 0 → Answered t armed id args 11
+  arm-taken : blocked (t .protected) armed id ≡ false → ownCommand (t .base) id ≡ some Arm → length args ≡ 1 → Answered t armed id args 11
   -- another own command done
-  own-done : blocked (t .protected) armed id ≡ false → ownNumber (t .base) id < 8 → length args ≡ argsWanted (ownNumber (t .base) id) → onRow (ownNumber (t .base) id) ≡ false → (ownNumber (t .base) id ≡ 0 → ⊥) → Answered t armed id args 12
+  own-done : blocked (t .protected) armed id ≡ false → (k : Own) → ownCommand (t .base) id ≡ some k → length args ≡ ruleOf k .wanted → ruleOf k .onRow ≡ false → ruleOf k .done ≡ 12 → Answered t armed id args 12
   -- neither own nor routed
-  no-route : blocked (t .protected) armed id ≡ false → 8 ≤ ownNumber (t .base) id → member id (routed t) ≡ false → Answered t armed id args 33
+  no-route : blocked (t .protected) armed id ≡ false → ownCommand (t .base) id ≡ none → member id (routed t) ≡ false → Answered t armed id args 33
   -- command dispatched
-  goes : blocked (t .protected) armed id ≡ false → 8 ≤ ownNumber (t .base) id → member id (routed t) ≡ true → Answered t armed id args 10
+  goes : blocked (t .protected) armed id ≡ false → ownCommand (t .base) id ≡ none → member id (routed t) ≡ true → Answered t armed id args 10
 
 module _ {t : Tables} {armed : Bool} {id : ℕ} {args : List ℕ} where
   -- no other answer fits
   pub only : {n : ℕ} → Answered t armed id args n → n ≡ answerTo t armed id args
   unfolding routeAnswer
   only (stopped b) = answer-30 _ _ _ _ _ _ _ b
-  only (miscounted b o h) = own-31 _ _ _ h ∙ answer-own _ _ _ _ _ _ _ b o
-  only (no-row b o e r h) = own-32 _ _ _ e r h ∙ answer-own _ _ _ _ _ _ _ b o
-  only (row-done b o e r h) = own-row _ _ _ e r h ∙ answer-own _ _ _ _ _ _ _ b o
-  only (arm-taken b o e r h) = own-arm _ _ _ e r h ∙ answer-own _ _ _ _ _ _ _ b o
-  only (own-done b o e r h) = own-other _ _ _ e r h ∙ answer-own _ _ _ _ _ _ _ b o
-  only (no-route b o h) = rw (← answer-route (routed t) (t .protected) (map faultId (t .rows)) armed id (ownNumber (t .base) id) args b o, h)
-  only (goes b o h) = rw (← answer-route (routed t) (t .protected) (map faultId (t .rows)) armed id (ownNumber (t .base) id) args b o, h)
+  only (miscounted b k o h) = own-31 _ k _ h ∙ answer-own _ _ _ _ _ _ k o b
+  only (no-row b k o e r h) = own-32 _ k _ e r h ∙ answer-own _ _ _ _ _ _ k o b
+  only (row-done b k o e r h) = own-row _ k _ e r h ∙ answer-own _ _ _ _ _ _ k o b
+  only (arm-taken b o e) = own-taken _ Arm _ e refl ∙ answer-own _ _ _ _ _ _ Arm o b
+  only (own-done b k o e r h) = sym h ∙ own-taken _ k _ e r ∙ answer-own _ _ _ _ _ _ k o b
+  only (no-route b o h) = rw (← answer-route (routed t) (t .protected) (map faultId (t .rows)) armed id args o b, h)
+  only (goes b o h) = rw (← answer-route (routed t) (t .protected) (map faultId (t .rows)) armed id args o b, h)
 
 -- some answer's conditions hold
 pub answered : (t : Tables) (armed : Bool) (id : ℕ) (args : List ℕ) → Answered t armed id args (answerTo t armed id args)
-answered t armed id args = go (blocked (t .protected) armed id) refl (ltb k 8) refl
+answered t armed id args = go (blocked (t .protected) armed id) refl (ownCommand (t .base) id) refl
   where
-    k : ℕ
-    k = ownNumber (t .base) id
-
     as-is : {n : ℕ} → Answered t armed id args n → Answered t armed id args (answerTo t armed id args)
     as-is a = rw (← only a) a
 
-    own : blocked (t .protected) armed id ≡ false → k < 8
-        → (b : Bool) → eqb (length args) (argsWanted k) ≡ b
-        → (r : Bool) → onRow k ≡ r
+    own : blocked (t .protected) armed id ≡ false → (k : Own) → ownCommand (t .base) id ≡ some k
+        → (b : Bool) → eqb (length args) (ruleOf k .wanted) ≡ b
+        → (r : Bool) → ruleOf k .onRow ≡ r
         → (i : Bool) → member (faultArg args) (map faultId (t .rows)) ≡ i
-        → (z : Bool) → eqb k 0 ≡ z
+        → (ruleOf k .done ≡ 11) ⊎ (ruleOf k .done ≡ 12)
         → Answered t armed id args (answerTo t armed id args)
-    own u o false e r er i ei z ez = as-is (miscounted u o (eqb-false _ _ e))
-    own u o true e true er false ei z ez = as-is (no-row u o (eqb-true _ _ e) er ei)
-    own u o true e true er true ei z ez = as-is (row-done u o (eqb-true _ _ e) er ei)
-    own u o true e false er i ei true ez = as-is (arm-taken u o (eqb-true _ _ e) er (eqb-true _ _ ez))
-    own u o true e false er i ei false ez = as-is (own-done u o (eqb-true _ _ e) er (eqb-false _ _ ez))
+    own u k o false e r er i ei d = as-is (miscounted u k o (eqb-false _ _ e))
+    own u k o true e true er false ei d = as-is (no-row u k o (eqb-true _ _ e) er ei)
+    own u k o true e true er true ei d = as-is (row-done u k o (eqb-true _ _ e) er ei)
+    own u k o true e false er i ei (inl d) =
+        let z = done-11 k d in
+        as-is (arm-taken u (o ∙ ap some z) (eqb-true _ _ e ∙ ap (λ (a : Own). ruleOf a .wanted) z))
+    own u k o true e false er i ei (inr d) = as-is (own-done u k o (eqb-true _ _ e) er d)
 
-    other : blocked (t .protected) armed id ≡ false → 8 ≤ k → (i : Bool) → member id (routed t) ≡ i → Answered t armed id args (answerTo t armed id args)
+    other : blocked (t .protected) armed id ≡ false → ownCommand (t .base) id ≡ none → (i : Bool) → member id (routed t) ≡ i → Answered t armed id args (answerTo t armed id args)
     other u o true e = as-is (goes u o e)
     other u o false e = as-is (no-route u o e)
 
-    go : (b : Bool) → blocked (t .protected) armed id ≡ b → (o : Bool) → ltb k 8 ≡ o → Answered t armed id args (answerTo t armed id args)
+    go : (b : Bool) → blocked (t .protected) armed id ≡ b → (o : Option Own) → ownCommand (t .base) id ≡ o → Answered t armed id args (answerTo t armed id args)
     go true e o eo = as-is (stopped e)
-    go false e true eo = own e (ltb-true _ _ eo) (eqb (length args) (argsWanted k)) refl (onRow k) refl (member (faultArg args) (map faultId (t .rows))) refl (eqb k 0) refl
-    go false e false eo = other e (ltb-false _ _ eo) (member id (routed t)) refl
+    go false e (some k) eo = own e k eo (eqb (length args) (ruleOf k .wanted)) refl (ruleOf k .onRow) refl (member (faultArg args) (map faultId (t .rows))) refl (done-is k)
+    go false e none eo = other e eo (member id (routed t)) refl
 
 -- ---- a fault
 

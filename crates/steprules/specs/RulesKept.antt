@@ -1,6 +1,7 @@
 -- A step keeps the rules of the state: so a loop may judge its state once and go on with the inner steps.
 use mathlib.Core.Path.{_≡_, refl}
 use mathlib.Core.Bool.{Bool, true, false, cond, not, _&&_}
+use mathlib.Core.Option.{Option, none, some}
 use mathlib.Core.List.{List, [], _∷_}
 use Prim.Native.Nat.{ℕ, zero, suc, _+_, _-_, _≤_, _<_}
 use native.Mathlib.Omega.{arith}
@@ -18,11 +19,12 @@ use Rattle.state.specs.declared.types.Arm.{Arm}
 use Rattle.state.specs.Tables.{FaultRow, Tables, tablesOf}
 use Rattle.state.specs.Keeps.{Clear, StateOk, StatesOk, ArmOk, RunOk, Keeps}
 use Rattle.faultstates.specs.FaultStates.{disabled, enabled, latched, enable, disable, clear, fault, nextState, rowAfter, actOn, clearAll}
-use Rattle.answers.specs.Own.{onRow, eventOf, faultArg}
+use Rattle.answers.specs.declared.own.Own.{Own}
+use Rattle.answers.specs.declared.own.Own.the-variants as own
+use Rattle.answers.specs.Own.{faultArg}
 use Rattle.arming.specs.Arming.{unarmed, armedFor, fullTime, armSet, armAfter, ticked}
 use Rattle.answers.specs.Answers.{answerTo, faultAnswer}
-use Rattle.answers.specs.OwnLaws.{row-range}
-use Rattle.steprules.specs.Step.{statesAfter, acceptedStep, rejectedStep, packetStep, tickStep, faulted, faultStep}
+use Rattle.steprules.specs.Step.{statesBy, statesAfter, acceptedStep, rejectedStep, packetStep, tickStep, faulted, faultStep}
 use Rattle.steprules.specs.StepLaws.{packet-rejected, packet-accepted}
 pub use Rattle.wire.specs.Bytes.{Bytes}
 
@@ -84,15 +86,24 @@ clear-ok (r ∷ rows) (s ∷ ss) h =
     let l = clear-low s in
     (record { known = omega arith; may-latch = λ p q. omega arith }, clear-ok rows ss (h .1))
 
-states-ok : (rows : List FaultRow) (n k : ℕ) (args ss : List ℕ) → StatesOk rows ss → StatesOk rows (statesAfter rows n k args ss)
+own-ok : (rows : List FaultRow) (k : Own) (args ss : List ℕ) → StatesOk rows ss → StatesOk rows (statesBy (λ e. actOn e (faultArg args) rows ss) k ss)
+own-ok rows own.Arm args ss h = h
+own-ok rows own.ResetCounters args ss h = h
+own-ok rows own.NoOp args ss h = h
+own-ok rows own.NoOpWithArgument args ss h = h
+own-ok rows own.Enable args ss h = act-ok enable (faultArg args) (lit≤ tt) rows ss h
+own-ok rows own.Disable args ss h = act-ok disable (faultArg args) (lit≤ tt) rows ss h
+own-ok rows own.Clear args ss h = act-ok clear (faultArg args) (lit≤ tt) rows ss h
+own-ok rows own.ClearAll args ss h = clear-ok rows ss h
+
+states-ok : (rows : List FaultRow) (n : ℕ) (k : Option Own) (args ss : List ℕ) → StatesOk rows ss → StatesOk rows (statesAfter rows n k args ss)
 unfolding statesAfter
-states-ok rows n k args ss h = go (eqb n 12) (onRow k) refl (eqb k 7)
+states-ok rows n none args ss h = h
+states-ok rows n (some k) args ss h = go (eqb n 12)
   where
-    go : (a b : Bool) → onRow k ≡ b → (d : Bool) → StatesOk rows (cond a (cond b (actOn (eventOf k) (faultArg args) rows ss) (cond d (clearAll ss) ss)) ss)
-    go true true r d = let w = row-range k r in act-ok (eventOf k) (faultArg args) (omega arith) rows ss h
-    go true false r true = clear-ok rows ss h
-    go true false r false = h
-    go false b r d = h
+    go : (a : Bool) → StatesOk rows (cond a (statesBy (λ e. actOn e (faultArg args) rows ss) k ss) ss)
+    go true = own-ok rows k args ss h
+    go false = h
 
 -- ---- the arm record
 

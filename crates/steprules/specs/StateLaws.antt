@@ -1,19 +1,22 @@
 -- The fault states after an own command, said of the fault ids alone: enable, disable and clear do not ask whether a row
 -- latches, so the code needs no more of the table; and that this is what the step says of the rows.
 use mathlib.Core.Path.{_≡_, refl, sym}
-use mathlib.Core.Bool.{Bool, true, false, cond}
+use mathlib.Core.Bool.{Bool, true, false, cond, false≢true}
+use mathlib.Core.Option.{Option, none, some}
 use mathlib.Core.List.{List, [], _∷_, map}
-use Prim.Native.Nat.{ℕ, _-_, _<_, _≤_}
+use Prim.Native.Nat.{ℕ, _<_, _≤_}
 use native.Mathlib.Omega.{arith}
 use lib.Dec.{eqb}
 use lib.ListN.{length, getD, set, length-map}
-use borrow.Author.Tests.{eq-eqb, ne-eqb}
+use borrow.Author.Tests.{ne-eqb}
 use Rattle.state.specs.Tables.{FaultRow, faultId}
+use Rattle.state.specs.Rules.{member}
 use Rattle.state.specs.Lookup.{placeIn}
-use Rattle.faultstates.specs.FaultStates.{clear, fault, nextState, actOn, clearAll}
-use Rattle.answers.specs.Own.{onRow, eventOf, faultArg}
-use Rattle.steprules.specs.Step.{statesAfter}
-use Rattle.answers.specs.OwnLaws.{row-range}
+use Rattle.faultstates.specs.FaultStates.{enable, disable, clear, fault, nextState, actOn, clearAll}
+use Rattle.answers.specs.declared.own.Own.{Own}
+use Rattle.answers.specs.declared.own.Own.the-variants.{Arm, ResetCounters, NoOp, NoOpWithArgument, Enable, Disable, Clear, ClearAll}
+use Rattle.answers.specs.Own.{ruleOf, faultArg}
+use Rattle.steprules.specs.Step.{statesBy, statesAfter}
 use Rattle.answers.specs.RowLaws.{not-fault}
 
 -- an event that is no fault, on the row of an id
@@ -22,13 +25,9 @@ actById e f [] ss = ss
 actById e f (x ∷ ids) [] = []
 actById e f (x ∷ ids) (s ∷ ss) = cond (eqb f x) (nextState s e ∷ ss) (s ∷ actById e f ids ss)
 
-unfoldable pub statesOn : List ℕ → ℕ → ℕ → List ℕ → List ℕ → List ℕ
-statesOn ids n k args ss =
-    cond (eqb n 12)
-    (cond (onRow k) (actById (eventOf k) (faultArg args) ids ss)
-    (cond (eqb k 7) (clearAll ss)
-    ss))
-    ss
+unfoldable pub statesOn : List ℕ → ℕ → Option Own → List ℕ → List ℕ → List ℕ
+statesOn ids n none args ss = ss
+statesOn ids n (some k) args ss = cond (eqb n 12) (statesBy (λ e. actById e (faultArg args) ids ss) k ss) ss
 
 -- ---- the same as by the rows
 
@@ -37,13 +36,21 @@ by-rows e f [] ss h = refl
 by-rows e f (r ∷ rows) [] h = refl
 by-rows e f (r ∷ rows) (s ∷ ss) h = rw (by-rows e f rows ss h, ← not-fault (r .latching) s e h)
 
-pub states-on : (rows : List FaultRow) (n k : ℕ) (args ss : List ℕ) → statesOn (map faultId rows) n k args ss ≡ statesAfter rows n k args ss
-unfolding statesOn statesAfter
-states-on rows n k args ss = go (onRow k) refl
-  where
-    go : (b : Bool) → onRow k ≡ b → statesOn (map faultId rows) n k args ss ≡ statesAfter rows n k args ss
-    go true r = rw (r, by-rows (eventOf k) (faultArg args) rows ss (λ e. omega (arith, row-range k r)))
-    go false r = rw r
+module _ (rows : List FaultRow) (args ss : List ℕ) where
+  own-on : (k : Own) → statesBy (λ e. actById e (faultArg args) (map faultId rows) ss) k ss ≡ statesBy (λ e. actOn e (faultArg args) rows ss) k ss
+  own-on Arm = refl
+  own-on ResetCounters = refl
+  own-on NoOp = refl
+  own-on NoOpWithArgument = refl
+  own-on Enable = by-rows enable (faultArg args) rows ss (λ e. omega arith)
+  own-on Disable = by-rows disable (faultArg args) rows ss (λ e. omega arith)
+  own-on Clear = by-rows clear (faultArg args) rows ss (λ e. omega arith)
+  own-on ClearAll = refl
+
+  pub states-on : (n : ℕ) (k : Option Own) → statesOn (map faultId rows) n k args ss ≡ statesAfter rows n k args ss
+  unfolding statesOn statesAfter
+  states-on n none = refl
+  states-on n (some k) = rw (own-on k)
 
 -- ---- as many states as there were
 
@@ -56,28 +63,37 @@ act-long e f (x ∷ ids) (s ∷ ss) = go (act-long e f ids ss) (eqb f x) refl
     go ih true q = simp q
     go ih false q = simp (q, ih)
 
-pub states-long : (ids : List ℕ) (n k : ℕ) (args ss : List ℕ) → length (statesOn ids n k args ss) ≡ length ss
+own-long : (ids : List ℕ) (k : Own) (args ss : List ℕ) → length (statesBy (λ e. actById e (faultArg args) ids ss) k ss) ≡ length ss
+own-long ids Arm args ss = refl
+own-long ids ResetCounters args ss = refl
+own-long ids NoOp args ss = refl
+own-long ids NoOpWithArgument args ss = refl
+own-long ids Enable args ss = act-long enable (faultArg args) ids ss
+own-long ids Disable args ss = act-long disable (faultArg args) ids ss
+own-long ids Clear args ss = act-long clear (faultArg args) ids ss
+own-long ids ClearAll args ss = length-map ss (λ (s : ℕ). nextState s clear)
+
+pub states-long : (ids : List ℕ) (n : ℕ) (k : Option Own) (args ss : List ℕ) → length (statesOn ids n k args ss) ≡ length ss
 unfolding statesOn
-states-long ids n k args ss = go (eqb n 12) (onRow k) (eqb k 7)
+states-long ids n none args ss = refl
+states-long ids n (some k) args ss = go (eqb n 12)
   where
-    go : (a b c : Bool) → length (cond a (cond b (actById (eventOf k) (faultArg args) ids ss) (cond c (clearAll ss) ss)) ss) ≡ length ss
-    go false b c = refl
-    go true true c = act-long (eventOf k) (faultArg args) ids ss
-    go true false true = length-map ss (λ (s : ℕ). nextState s clear)
-    go true false false = refl
+    go : (a : Bool) → length (cond a (statesBy (λ e. actById e (faultArg args) ids ss) k ss) ss) ≡ length ss
+    go true = own-long ids k args ss
+    go false = refl
 
 -- ---- each way of the code
 
-act-none : (e f : ℕ) (ids ss : List ℕ) → length ids ≤ placeIn f ids → actById e f ids ss ≡ ss
-act-none e f [] ss h = refl
-act-none e f (x ∷ ids) [] h = refl
-act-none e f (x ∷ ids) (s ∷ ss) h = go (act-none e f ids ss) (eqb f x) refl
+pub act-absent : (e f : ℕ) (ids ss : List ℕ) → member f ids ≡ false → actById e f ids ss ≡ ss
+act-absent e f [] ss h = refl
+act-absent e f (x ∷ ids) [] h = refl
+act-absent e f (x ∷ ids) (s ∷ ss) h = go (act-absent e f ids ss) (eqb f x) refl
   where
-    go : (length ids ≤ placeIn f ids → actById e f ids ss ≡ ss) → (b : Bool) → eqb f x ≡ b → actById e f (x ∷ ids) (s ∷ ss) ≡ s ∷ ss
-    go ih true q = absurd (omega (arith, simp q at h))
-    go ih false q = simp (q, ih (omega (arith, simp q at h)))
+    go : (member f ids ≡ false → actById e f ids ss ≡ ss) → (b : Bool) → eqb f x ≡ b → actById e f (x ∷ ids) (s ∷ ss) ≡ s ∷ ss
+    go ih true q = absurd (false≢true (sym (simp q at h)))
+    go ih false q = simp (q, ih (simp q at h))
 
-act-at : (e f : ℕ) (ids ss : List ℕ) → placeIn f ids < length ids → length ids ≤ length ss → set ss (placeIn f ids) (nextState (getD ss (placeIn f ids) 0) e) ≡ actById e f ids ss
+pub act-at : (e f : ℕ) (ids ss : List ℕ) → placeIn f ids < length ids → length ids ≤ length ss → set ss (placeIn f ids) (nextState (getD ss (placeIn f ids) 0) e) ≡ actById e f ids ss
 act-at e f [] ss h l = absurd (omega arith)
 act-at e f (x ∷ ids) [] h l = absurd (omega arith)
 act-at e f (x ∷ ids) (s ∷ ss) h l = go (λ i. act-at e f ids ss i (omega arith)) (eqb f x) refl
@@ -87,26 +103,24 @@ act-at e f (x ∷ ids) (s ∷ ss) h l = go (λ i. act-at e f ids ss i (omega ari
     go ih true q = simp q
     go ih false q = simp (q, ih (omega (arith, simp q at h)))
 
-module _ (ids : List ℕ) (n k : ℕ) (args ss : List ℕ) where
-  pub states-same : (n ≡ 12 → ⊥) → ss ≡ statesOn ids n k args ss
+module _ (ids : List ℕ) (args ss : List ℕ) where
+  pub states-same : (n : ℕ) (k : Option Own) → (n ≡ 12 → ⊥) → ss ≡ statesOn ids n k args ss
   unfolding statesOn
-  states-same h = simp (ne-eqb n 12 h)
+  states-same n none h = refl
+  states-same n (some k) h = simp (ne-eqb n 12 h)
 
-  module _ (e : n ≡ 12) where
-    -- the row at the place found, and no row where none is found
-    pub states-row : (place v f : ℕ) → onRow k ≡ true → f ≡ faultArg args → place ≡ placeIn f ids → (place < length ids) × (length ids ≤ length ss) → v ≡ nextState (getD ss place 0) (k - 4) → set ss place v ≡ statesOn ids n k args ss
-    unfolding statesOn
-    states-row place v f r p q (h, l) w =
-        rw (eq-eqb n 12 e, r, w, q, p) (act-at (k - 4) (faultArg args) ids ss (rw (← p) (omega arith)) l)
+  pub states-12 : (k : Own) → statesBy (λ e. actById e (faultArg args) ids ss) k ss ≡ statesOn ids 12 (some k) args ss
+  unfolding statesOn
+  states-12 k = refl
 
-    pub states-none : (place f : ℕ) → onRow k ≡ true → f ≡ faultArg args → place ≡ placeIn f ids → length ids ≤ place → ss ≡ statesOn ids n k args ss
-    unfolding statesOn
-    states-none place f r p q h = rw (eq-eqb n 12 e, r) (sym (act-none (k - 4) (faultArg args) ids ss (rw (← p) (omega arith))))
-
-    pub states-clear : onRow k ≡ false → k ≡ 7 → clearAll ss ≡ statesOn ids n k args ss
-    unfolding statesOn
-    states-clear r h = simp (eq-eqb n 12 e, r, eq-eqb k 7 h)
-
-    pub states-rest : onRow k ≡ false → (k ≡ 7 → ⊥) → ss ≡ statesOn ids n k args ss
-    unfolding statesOn
-    states-rest r h = simp (eq-eqb n 12 e, r, ne-eqb k 7 h)
+  -- what a command makes of them once it is done, whatever it is answered
+  pub states-done : (k : Own) → statesBy (λ e. actById e (faultArg args) ids ss) k ss ≡ statesOn ids (ruleOf k .done) (some k) args ss
+  unfolding statesOn
+  states-done Arm = refl
+  states-done ResetCounters = refl
+  states-done NoOp = refl
+  states-done NoOpWithArgument = refl
+  states-done Enable = refl
+  states-done Disable = refl
+  states-done Clear = refl
+  states-done ClearAll = refl

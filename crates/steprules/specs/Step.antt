@@ -1,5 +1,6 @@
 -- Document 01, "Steps and what they return": the three steps, on a state that keeps its rules and on any state whatever.
 use mathlib.Core.Bool.{cond}
+use mathlib.Core.Option.{Option, none, some}
 use mathlib.Core.List.{List}
 use Prim.Native.Nat.{ℕ, _+_}
 use lib.Dec.{eqb, leb}
@@ -12,8 +13,10 @@ use Rattle.state.specs.Tables.{FaultRow, Tables, tablesOf}
 use Rattle.state.specs.Test.{keepsRules}
 use Rattle.steprules.specs.declared.types.Stepped.{Stepped}
 use Rattle.steprules.specs.Bare.{bareAnswer, unchanged}
-use Rattle.faultstates.specs.FaultStates.{fault, actOn, clearAll, rowFor}
-use Rattle.answers.specs.Own.{ownNumber, onRow, eventOf, faultArg}
+use Rattle.faultstates.specs.FaultStates.{enable, disable, clear, fault, actOn, clearAll, rowFor}
+use Rattle.answers.specs.declared.own.Own.{Own}
+use Rattle.answers.specs.declared.own.Own.the-variants.{Arm, ResetCounters, NoOp, NoOpWithArgument, Enable, Disable, Clear, ClearAll}
+use Rattle.answers.specs.Own.{ownCommand, isReset, faultArg}
 use Rattle.arming.specs.Arming.{armAfter, ticked, tickAnswer}
 use Rattle.counters.specs.Counters.{packetCounts, rejectedCounts, faultCounts}
 use Rattle.dispatch.specs.Dispatch.{sent, for10, destOf}
@@ -21,14 +24,21 @@ use Rattle.answers.specs.Answers.{answerTo, faultAnswer}
 
 -- ---- a packet
 
--- the fault states after the own command k with the answer n
-unfoldable pub statesAfter : List FaultRow → ℕ → ℕ → List ℕ → List ℕ → List ℕ
-statesAfter rows n k args ss =
-    cond (eqb n 12)
-    (cond (onRow k) (actOn (eventOf k) (faultArg args) rows ss)
-    (cond (eqb k 7) (clearAll ss)
-    ss))
-    ss
+-- what an own command that is done makes of the fault states; `act` is an event on the row of the fault id in its arguments
+abbrev pub statesBy : (ℕ → List ℕ) → Own → List ℕ → List ℕ
+statesBy act Arm ss = ss
+statesBy act ResetCounters ss = ss
+statesBy act NoOp ss = ss
+statesBy act NoOpWithArgument ss = ss
+statesBy act Enable ss = act enable
+statesBy act Disable ss = act disable
+statesBy act Clear ss = act clear
+statesBy act ClearAll ss = clearAll ss
+
+-- the fault states after a packet whose id selects an own command or none, with the answer n
+unfoldable pub statesAfter : List FaultRow → ℕ → Option Own → List ℕ → List ℕ → List ℕ
+statesAfter rows n none args ss = ss
+statesAfter rows n (some k) args ss = cond (eqb n 12) (statesBy (λ e. actOn e (faultArg args) rows ss) k ss) ss
 
 -- an accepted packet that gets the answer n
 abbrev pub acted : Tables → Run → ℕ → List ℕ → ℕ → Stepped
@@ -37,8 +47,8 @@ acted t run id args n =
       run =
           record {
             arm = armAfter n args;
-            counts = packetCounts n (ownNumber (t .base) id) (run .counts);
-            states = statesAfter (t .rows) n (ownNumber (t .base) id) args (run .states);
+            counts = packetCounts n (isReset (ownCommand (t .base) id)) (run .counts);
+            states = statesAfter (t .rows) n (ownCommand (t .base) id) args (run .states);
           };
       answer = record { answer = n; id = id; dest = for10 n (destOf id (t .routes)); written = for10 n (5 + length args) };
     }

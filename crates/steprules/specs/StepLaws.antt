@@ -1,6 +1,7 @@
 -- Laws of the three steps: the parts that make one up, and each way on any state.
 use mathlib.Core.Path.{_≡_, refl, ap}
 use mathlib.Core.Bool.{true, false}
+use mathlib.Core.Option.{Option}
 use mathlib.Core.List.{List, map}
 use Prim.Native.Nat.{ℕ, _+_, _<_, _≤_}
 use lib.Dec.{eqb}
@@ -18,7 +19,8 @@ use Rattle.state.specs.Tables.{Tables, faultId, routed, tablesOf}
 use Rattle.state.specs.Test.{keepsRules}
 use Rattle.steprules.specs.declared.types.Stepped.{Stepped}
 use Rattle.steprules.specs.Bare.{unchanged}
-use Rattle.answers.specs.Own.{ownNumber}
+use Rattle.answers.specs.declared.own.Own.{Own}
+use Rattle.answers.specs.Own.{ownCommand, isReset}
 use Rattle.arming.specs.Arming.{armAfter}
 use Rattle.counters.specs.Counters.{packetCounts}
 use Rattle.dispatch.specs.Dispatch.{sent, for10, destOf}
@@ -27,20 +29,20 @@ use Rattle.steprules.specs.Step.{acted, acceptedStep, rejectedStep, pack
 use Rattle.steprules.specs.StateLaws.{statesOn, states-on}
 
 -- the parts that make up the step of an accepted packet; the tables' ids are those that the code was lent
-pub accepted-is : (t : Tables) (run : Run) (id : ℕ) (args : List ℕ) {routedIds faultIds : List ℕ} {k n dest written : ℕ} {arm : Arm} {counts : Counts} {states : List ℕ}
+pub accepted-is : (t : Tables) (run : Run) (id : ℕ) (args : List ℕ) {routedIds faultIds : List ℕ} {k : Option Own} {n dest written : ℕ} {arm : Arm} {counts : Counts} {states : List ℕ}
     → routed t ≡ routedIds
     → map faultId (t .rows) ≡ faultIds
-    → k ≡ ownNumber (t .base) id
+    → k ≡ ownCommand (t .base) id
     → n ≡ answerFor routedIds (t .protected) faultIds (run .arm .armed) id k args
     → arm ≡ armAfter n args
-    → counts ≡ packetCounts n k (run .counts)
+    → counts ≡ packetCounts n (isReset k) (run .counts)
     → states ≡ statesOn faultIds n k args (run .states)
     → dest ≡ for10 n (destOf id (t .routes))
     → written ≡ for10 n (5 + length args)
     → record { run = record { arm = arm; counts = counts; states = states }; answer = record { answer = n; id = id; dest = dest; written = written } } ≡ acceptedStep t run id args
 unfolding acceptedStep
 accepted-is t run id args {n = n} er ef ek en ea ec es ed ew =
-    rw (ea, ec, es, ed, ew, ek, ← ef, states-on (t .rows) n (ownNumber (t .base) id) args (run .states)) (ap (acted t run id args) (rw (← er, ← ef, ek) at en))
+    rw (ea, ec, es, ed, ew, ek, ← ef, states-on (t .rows) args (run .states) n (ownCommand (t .base) id)) (ap (acted t run id args) (rw (← er, ← ef, ek) at en))
 
 -- a refusal is no 10
 bad-not-10 : {s : List ℕ} {n : ℕ} → BadForm s n → eqb n 10 ≡ false

@@ -19,17 +19,23 @@ enum Event<'a> {
     Fault(u16),
 }
 
-/// The first record of some bytes, as event and size, or its refusal: cut, of another kind, of wrong length.
+/// Why a replay stops, by the header's numbers.
+const CUT: u8 = 60;
+const OTHER_KIND: u8 = 61;
+const WRONG_LENGTH: u8 = 62;
+const OUTPUT_FULL: u8 = 63;
+
+/// The first record of some bytes, as event and size, or why it stops the replay.
 fn event(bytes: &[u8]) -> Result<(Event<'_>, usize), u8> {
-    let (header, rest) = bytes.split_first_chunk::<4>().ok_or(1)?;
+    let (header, rest) = bytes.split_first_chunk::<4>().ok_or(CUT)?;
     let length = usize::from(u16::from_le_bytes([header[0], header[1]]));
-    let body = rest.get(..length).ok_or(1)?;
+    let body = rest.get(..length).ok_or(CUT)?;
     let event = match (u16::from_le_bytes([header[2], header[3]]), body) {
         (16, packet) => Event::Packet(packet),
         (17, []) => Event::Tick,
         (18, [low, high]) => Event::Fault(u16::from_le_bytes([*low, *high])),
-        (17 | 18, _) => return Err(3),
-        _ => return Err(2),
+        (17 | 18, _) => return Err(WRONG_LENGTH),
+        _ => return Err(OTHER_KIND),
     };
     Ok((event, 4 + length))
 }
@@ -55,7 +61,7 @@ pub fn resume(config: &Config, run: &mut Run, recording: &[u8], room: usize) -> 
             }
         };
         if room - expected.written.len() < 266 {
-            expected.stop = 21;
+            expected.stop = OUTPUT_FULL;
             break;
         }
         let mut out = [0; 260];

@@ -44,7 +44,7 @@ impl Tally {
             ),
             ("loading", &self.load, (0..=7).collect()),
             ("step", &self.step, (10..=15).chain(20..=34).collect()),
-            ("replay", &self.stop, vec![0, 1, 2, 3, 20, 21]),
+            ("replay", &self.stop, vec![0, 20, 60, 61, 62, 63]),
             (
                 "build",
                 &self.build,

@@ -33,7 +33,7 @@ pub fn judge(packet: &[u8]) -> Result<Command<'_>, Outcome> {
     let pads = usize::from(packet[6] & 0x7F);
     let data = packet.len() - 6;
     if data < pads + 4 {
-        return Err(Outcome::NoArguments);
+        return Err(Outcome::ShortData);
     }
     let arguments = &packet[10..packet.len() - pads];
     if arguments.len() > 255 {

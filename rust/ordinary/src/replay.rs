@@ -13,11 +13,11 @@ pub const REPLY_ROOM: usize = 6 + ROOM;
 #[repr(u8)]
 pub enum Stop {
     End = 0,
-    Cut = 1,
-    OtherKind = 2,
-    WrongLength = 3,
     BadState = 20,
-    NoRoom = 21,
+    Cut = 60,
+    OtherKind = 61,
+    WrongLength = 62,
+    OutputFull = 63,
 }
 
 /// How far a piece of a recording came.
@@ -86,7 +86,7 @@ fn walk(config: &Config, run: &mut Run, recording: &[u8], out: &mut [u8]) -> Pie
         let Some((numbers, Some(command))) =
             room.map(|(numbers, rest)| (numbers, rest.first_chunk_mut::<ROOM>()))
         else {
-            piece.stop = Stop::NoRoom;
+            piece.stop = Stop::OutputFull;
             break;
         };
         let answer = match (record.kind, record.body) {

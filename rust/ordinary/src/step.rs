@@ -25,7 +25,7 @@ pub enum Outcome {
     BadType = 25,
     NoSecondary = 26,
     BadXor = 27,
-    NoArguments = 28,
+    ShortData = 28,
     TooLong = 29,
     Protected = 30,
     BadCount = 31,

@@ -9,7 +9,8 @@
 //! 128 destinations (1 each); count of protected ids (8), 32 protected ids (2 each); count of fault rows (8), 32 fault ids
 //! (2 each), 32 response ids (2 each), 32 latching bytes, 32 argument counts, 32 times 16 argument bytes.
 //!
-//! No bytes are refused. What was damaged, the library finds at the next step (answer 20).
+//! No bytes are refused. Where they break a rule of a state, the next step says so (answer 20); damage that keeps the rules is
+//! not found. Who needs that keeps a checksum of his own beside them.
 
 use crate::configuration::Configuration;
 use crate::ffi;
@@ -151,6 +152,10 @@ impl State {
     }
 
     /// A state from bytes. None are refused: steps on a state that breaks its rules answer [`crate::Outcome::BadState`].
+    ///
+    /// Other damage is not found: `armed` changed to 1 where no ticks remain (as after an arm command with timeout 0), other
+    /// ticks up to 255 in an armed state, other counters, a fault row in another state that it may have, and the state of
+    /// another configuration where it happens to fit.
     pub fn from_bytes(bytes: &[u8; STATE_BYTES]) -> State {
         let mut run = NO_RUN;
         run.each(&mut Restore(bytes.iter()));
@@ -167,7 +172,8 @@ impl Configuration {
     }
 
     /// A configuration from bytes. None are refused: steps under one that breaks its rules answer
-    /// [`crate::Outcome::BadState`].
+    /// [`crate::Outcome::BadState`]. One that was changed and keeps them (another destination from 1 to 31, say) is taken as
+    /// it is.
     pub fn from_bytes(bytes: &[u8; CONFIGURATION_BYTES]) -> Configuration {
         let mut config = NO_CONFIG;
         config.each(&mut Restore(bytes.iter()));

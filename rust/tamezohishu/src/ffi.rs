@@ -9,8 +9,8 @@ pub const PROTECTED_IDS: usize = 32;
 pub const ROWS: usize = 32;
 pub const ROW_ARGS: usize = 16;
 
-/// Which structs and signatures these are: `TZ_ABI` of the header.
-pub const ABI: u32 = 1;
+/// Which structs, signatures and numbers these are: `TZ_ABI` of the header.
+pub const ABI: u32 = 2;
 
 #[repr(C)]
 #[derive(Clone, Copy, PartialEq, Eq, Debug)]

@@ -11,8 +11,9 @@
 //! - [`judge`] and [`arguments`] ask about a packet by itself.
 //! - [`build`] makes a packet from its [`Fields`], [`build_into`] the same in a lent buffer; what it makes, [`judge`] accepts.
 //! - [`replay`] runs a whole [`Recording`] under an image, [`State::resume`] a piece of one.
-//! - [`State::to_bytes`] and [`State::from_bytes`] keep a state between two runs of a program. Bytes that were damaged make a
-//!   state whose every step answers [`Outcome::BadState`]: the library judges a state, this crate never does.
+//! - [`State::to_bytes`] and [`State::from_bytes`] keep a state between two runs of a program. The library judges a state
+//!   at each step, this crate never does: steps on one that breaks its rules answer [`Outcome::BadState`]. That is no test for
+//!   damage: bytes that were changed and keep the rules ([`State::from_bytes`] names some) are taken as they are.
 //!
 //! Nothing here panics, whatever the bytes. A number that this crate has no name for is kept (`Other`).
 //!

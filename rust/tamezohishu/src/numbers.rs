@@ -82,7 +82,7 @@ numbers! {
         BadType = 25: "type not telecommand",
         NoSecondary = 26: "no secondary header",
         BadXor = 27: "XOR not zero",
-        NoArguments = 28: "data length - pads below 4",
+        ShortData = 28: "data length - pads below 4",
         TooLong = 29: "more than 255 arguments",
         Protected = 30: "protected and unarmed",
         BadCount = 31: "own command, wrong argument count",
@@ -101,7 +101,7 @@ numbers! {
         BadType = 25: "type not telecommand",
         NoSecondary = 26: "no secondary header",
         BadXor = 27: "XOR not zero",
-        NoArguments = 28: "data length - pads below 4",
+        ShortData = 28: "data length - pads below 4",
         TooLong = 29: "more than 255 arguments",
     }
 }
@@ -118,14 +118,14 @@ numbers! {
 }
 
 numbers! {
-    /// Why a replay stopped.
+    /// Why a replay stopped. 60 to 63 are numbers of their own: what was answered before them stands.
     Stop {
         End = 0: "all of the recording was read",
-        Cut = 1: "a record is cut",
-        OtherKind = 2: "a record is of another kind than 16, 17 and 18",
-        WrongLength = 3: "a record has a wrong length for its kind",
         BadState = 20: "state breaks its rules",
-        NoRoom = 21: "less than 266 bytes of the output were left",
+        Cut = 60: "a record is cut",
+        OtherKind = 61: "a record is of another kind than 16, 17 and 18",
+        WrongLength = 62: "a record has a wrong length for its kind",
+        OutputFull = 63: "the output is full: an event was left, and less than 266 bytes for it",
     }
 }
 
@@ -149,9 +149,9 @@ impl Outcome {
 }
 
 impl Stop {
-    /// Whether the stop is at a bad record (1, 2 or 3).
+    /// Whether the stop is at a bad record (60, 61 or 62).
     pub fn is_bad_record(self) -> bool {
-        (1..=3).contains(&self.number())
+        (60..=62).contains(&self.number())
     }
 }
 
@@ -185,6 +185,11 @@ mod tests {
         assert_eq!(Refusal::NAMED.len(), 8);
         let built: Vec<u8> = BuildRefusal::NAMED.iter().map(|r| r.number()).collect();
         assert_eq!(built, [40, 41, 42, 43, 44]);
+        let stops: Vec<u8> = Stop::NAMED.iter().map(|s| s.number()).collect();
+        assert_eq!(stops, [0, 20, 60, 61, 62, 63]);
+        for stop in Stop::NAMED {
+            assert_eq!(stop.is_bad_record(), (60..63).contains(&stop.number()));
+        }
         for refusal in Refusal::NAMED {
             let outcome = Outcome::from(refusal.number());
             assert!(outcome.is_rejected());

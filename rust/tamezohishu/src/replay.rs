@@ -138,9 +138,9 @@ fn part(out: &[u8], wrote: usize) -> &[u8] {
 
 impl State {
     /// Runs a piece of a recording. [`crate::REPLY_ROOM`] bytes of output for each event are always enough. With less it
-    /// stops before the first event that has no room; the state is then as the last answer left it, and the rest of the
-    /// recording, from `read` on, can be handed in with new room. The state is judged once for the piece, where single
-    /// steps judge it for each event.
+    /// stops before the first event that has no room ([`Stop::OutputFull`]); the state is then as the last answer left it, and
+    /// the rest of the recording, from `read` on, can be handed in with new room. The state is judged once for the piece, where
+    /// single steps judge it for each event.
     pub fn resume<'a>(
         &mut self,
         configuration: &Configuration,

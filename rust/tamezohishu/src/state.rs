@@ -8,7 +8,8 @@ use std::fmt;
 /// The state of a running path: the arm record, the counters and the states of the fault rows.
 ///
 /// It belongs to the [`Configuration`] it was loaded with. The library judges both at each step, and answers
-/// [`Outcome::BadState`] where they do not go together, changing nothing.
+/// [`Outcome::BadState`] where they break a rule, changing nothing. A state of another configuration may happen to keep the
+/// rules: then nothing tells.
 #[derive(Clone, PartialEq, Eq, Debug)]
 pub struct State(pub(crate) ffi::Run);
 

@@ -182,7 +182,7 @@ fn a_state_is_saved_and_restored() {
 }
 
 #[test]
-fn a_damaged_state_is_answered_20() {
+fn a_state_that_breaks_a_rule_is_answered_20() {
     let (configuration, state) = loaded();
     let mut bytes = state.to_bytes();
     bytes[0] = 2;
@@ -205,6 +205,25 @@ fn a_damaged_state_is_answered_20() {
     assert_eq!(damaged.routes().count(), ROUTES);
 }
 
+/// 20 comes where a rule breaks, and nowhere else: these runs were damaged too, and nothing can tell.
+#[test]
+fn damage_that_keeps_the_rules_is_not_found() {
+    let (configuration, state) = loaded();
+    let good = state.to_bytes();
+    // Armed, with no ticks that remain: as after an arm command with timeout 0.
+    let mut bytes = good;
+    bytes[0] = 1;
+    let mut state = State::from_bytes(&bytes);
+    assert_eq!(state.tick(&configuration).outcome, Outcome::Tick);
+    assert!(state.is_armed());
+    // A counter that is another.
+    let mut bytes = good;
+    bytes[3] ^= 0x80;
+    let mut state = State::from_bytes(&bytes);
+    assert_eq!(state.tick(&configuration).outcome, Outcome::Tick);
+    assert_eq!(state.counters().accepted, 0x80);
+}
+
 #[test]
 fn no_bytes_at_all() {
     let (configuration, mut state) = loaded();
@@ -217,6 +236,23 @@ fn no_bytes_at_all() {
     let answer = state.packet(&configuration, &[], &mut [0; ROOM]);
     assert_eq!(answer.outcome, Outcome::Short);
     assert_eq!(replay(&C, &[], &mut []).map(|r| r.stop), Ok(Stop::End));
+}
+
+#[test]
+fn a_bad_record_stops_with_its_own_number() {
+    let tick = [0, 0, 17, 0];
+    for (bad, stop) in [
+        (&[0, 0, 17][..], Stop::Cut),
+        (&[2, 0, 18, 0, 7], Stop::Cut),
+        (&[0, 0, 19, 0], Stop::OtherKind),
+        (&[1, 0, 17, 0, 0], Stop::WrongLength),
+        (&[1, 0, 18, 0, 7], Stop::WrongLength),
+    ] {
+        let mut out = [0; 2 * REPLY_ROOM];
+        let replay = replay(&C, &[&tick, bad].concat(), &mut out).expect("C loads");
+        assert_eq!((replay.stop, replay.read, replay.count), (stop, 4, 1));
+        assert!(replay.stop.is_bad_record());
+    }
 }
 
 #[test]
@@ -244,7 +280,10 @@ fn a_recording_whole_and_in_two_pieces() {
     let (configuration, mut state) = loaded();
     let mut small = [0; REPLY_ROOM];
     let first = state.resume(&configuration, bytes, &mut small);
-    assert_eq!((first.stop, first.read, first.count), (Stop::NoRoom, 16, 1));
+    assert_eq!(
+        (first.stop, first.read, first.count),
+        (Stop::OutputFull, 16, 1)
+    );
     assert_eq!(first.replies().collect::<Vec<_>>(), replies[..1]);
     let read = first.read;
     let mut rest = [0; 2 * REPLY_ROOM];

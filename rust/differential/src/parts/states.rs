@@ -1,5 +1,5 @@
-//! A state from elsewhere: good, or damaged in one place. A damaged one is answered 20 by every step and piece, and nothing
-//! changes; a good one is answered as by the reading.
+//! A state from elsewhere: good, or damaged in one place. One that breaks a rule, as the reading says, is answered 20 by every
+//! step and piece, and nothing changes; one that keeps them is answered as by the reading.
 
 use super::both::Both;
 use super::same;

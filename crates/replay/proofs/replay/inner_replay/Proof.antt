@@ -24,7 +24,7 @@ use Rattle.steprules.specs.MovedOn.{lend-states, lend-rows, fault-moved, fault-
 use Rattle.history.specs.Plain.{packet, tick, fault}
 use Rattle.replayrules.specs.declared.types.Reached.{Reached}
 use Rattle.replayrules.specs.RecordingLaws.{is-packet, is-tick, long-tick, only, fault-sized, packet-event, tick-event, fault-event}
-use Rattle.replayrules.specs.Recording.{kindRefusal}
+use Rattle.replayrules.specs.Recording.{outputFull, kindRefusal}
 use Rattle.replayrules.specs.PathLaws.{packet-over, fault-over}
 use Rattle.replayrules.specs.OutputLaws.{partFrom, part-is}
 use Rattle.replayrules.specs.Walk.{Told, Going, start, same, ends, cuts, found, refuses, cramped, goes-on, goes-on-silent}
@@ -117,8 +117,8 @@ module _ (c : tie.After-word-at Inv-loop μ-loop) where
     part-room = rw (part-is out (head .loop .wrote + 6)) (omega (arith, length-drop (head .loop .wrote + 6) out, fits))
 
   -- or not
-  stops-21 : {n : ℕ} → n ≡ kindRefusal kind size → n ≡ 0 → length out - head .loop .wrote < 266 → Stops head 21
-  stops-21 e z h = cramped g inside whole e z (omega (arith, same g, h))
+  stops-full : {n : ℕ} → n ≡ kindRefusal kind size → n ≡ 0 → length out - head .loop .wrote < 266 → Stops head outputFull
+  stops-full e z h = cramped g inside whole e z (omega (arith, same g, h))
 
 -- a packet, with room
 module _ (c : tie.Else3 Inv-loop μ-loop) where
@@ -163,7 +163,7 @@ returns-2 : tie.Need-returns-2 Inv-loop μ-loop
 returns-2 c =
     let w = c .before in
     let e = w .before .before .before in
-    here (head e) (stops-21 e (only (is-packet (w .before .if2 .taken))) refl (w .if3 .taken)) (c .stopped2 .ensures)
+    here (head e) (stops-full e (only (is-packet (w .before .if2 .taken))) refl (w .if3 .taken)) (c .stopped2 .ensures)
 
 returns-3 : tie.Need-returns-3 Inv-loop μ-loop
 returns-3 c =
@@ -175,7 +175,7 @@ returns-4 : tie.Need-returns-4 Inv-loop μ-loop
 returns-4 c =
     let w = c .before in
     let e = w .before .before .before .before .before in
-    here (head e) (stops-21 e (only (is-tick (w .before .before .if4 .taken) (w .before .if5 .left))) refl (w .if6 .taken)) (c .stopped4 .ensures)
+    here (head e) (stops-full e (only (is-tick (w .before .before .if4 .taken) (w .before .if5 .left))) refl (w .if6 .taken)) (c .stopped4 .ensures)
 
 returns-5 : tie.Need-returns-5 Inv-loop μ-loop
 returns-5 c =
@@ -187,7 +187,7 @@ returns-6 : tie.Need-returns-6 Inv-loop μ-loop
 returns-6 c =
     let w = c .before in
     let e = w .before .before .before .before .before .before in
-    here (head e) (stops-21 e (w .before .before .refusal .ensures) (w .before .if7 .left) (w .if8 .taken)) (c .stopped6 .ensures)
+    here (head e) (stops-full e (w .before .before .refusal .ensures) (w .before .if7 .left) (w .if8 .taken)) (c .stopped6 .ensures)
 
 returns-7 : tie.Need-returns-7 Inv-loop μ-loop
 returns-7 c = let t = c .before in here (t .before) (ends (t .before .loop .inv .0) (t .loop-test .left)) (c .stopped7 .ensures)
