@@ -10,6 +10,7 @@
 //! from its fields, for whoever sends one.
 #![forbid(unsafe_code)]
 
+mod answer;
 mod build;
 mod config;
 mod load;
@@ -19,10 +20,11 @@ mod replay;
 mod rules;
 mod step;
 
+pub use answer::{Answer, Outcome, REPLY_HEAD, REPLY_ROOM, ROOM};
 pub use build::{build, BuildRefusal, Fields};
 pub use config::{Config, Run, ROUTES, ROWS, ROW_ARGS};
 pub use load::{load, LoadError};
 pub use packet::{arguments, judge, Command};
-pub use replay::{replay, resume, Piece, Replayed, Stop, REPLY_ROOM};
+pub use replay::{replay, resume, Piece, Replayed, Stop};
 pub use rules::keeps_rules;
-pub use step::{inner, step_fault, step_packet, step_tick, Answer, Outcome, ROOM};
+pub use step::{inner, step_fault, step_packet, step_tick};

@@ -1,6 +1,6 @@
 //! The packet judge.
 
-use crate::step::Outcome;
+use crate::answer::Outcome;
 
 /// What an accepted packet carries. The arguments are the packet's own bytes.
 #[derive(Clone, Copy, Debug, PartialEq, Eq)]

@@ -1,13 +1,11 @@
 //! Replay: an image and a recording in, the answers out, in the layout of the C header.
 
+use crate::answer::{REPLY_HEAD, ROOM};
 use crate::config::{Config, Run};
 use crate::load::{load, LoadError};
 use crate::record;
 use crate::rules::keeps_rules;
-use crate::step::{inner, ROOM};
-
-/// Output room that an event asks for: six bytes of numbers and a step's room.
-pub const REPLY_ROOM: usize = 6 + ROOM;
+use crate::step::inner;
 
 #[derive(Clone, Copy, Debug, PartialEq, Eq)]
 #[repr(u8)]
@@ -82,7 +80,7 @@ fn walk(config: &Config, run: &mut Run, recording: &[u8], out: &mut [u8]) -> Pie
                 break;
             }
         }
-        let room = out[piece.wrote..].split_first_chunk_mut::<6>();
+        let room = out[piece.wrote..].split_first_chunk_mut::<REPLY_HEAD>();
         let Some((numbers, Some(command))) =
             room.map(|(numbers, rest)| (numbers, rest.first_chunk_mut::<ROOM>()))
         else {
@@ -96,19 +94,10 @@ fn walk(config: &Config, run: &mut Run, recording: &[u8], out: &mut [u8]) -> Pie
             }
             _ => inner::tick(run),
         };
-        let [id0, id1] = answer.id.to_le_bytes();
-        let [written0, written1] = answer.written.to_le_bytes();
-        *numbers = [
-            answer.outcome as u8,
-            id0,
-            id1,
-            answer.dest,
-            written0,
-            written1,
-        ];
+        *numbers = answer.head();
         piece.read += record.size;
         piece.count += 1;
-        piece.wrote += 6 + usize::from(answer.written);
+        piece.wrote += REPLY_HEAD + usize::from(answer.written);
     }
     piece
 }

@@ -1,62 +1,9 @@
 //! The steps.
 
+use crate::answer::{Answer, Outcome, ROOM};
 use crate::config::{Config, Run};
 use crate::packet::{judge, Command};
 use crate::rules::keeps_rules;
-
-/// Output room that a step asks for.
-pub const ROOM: usize = 260;
-
-/// What a step answers.
-#[derive(Clone, Copy, Debug, PartialEq, Eq)]
-#[repr(u8)]
-pub enum Outcome {
-    Dispatched = 10,
-    Armed = 11,
-    Done = 12,
-    Quiet = 13,
-    Tick = 14,
-    Unarmed = 15,
-    BadState = 20,
-    NoRoom = 21,
-    Short = 22,
-    BadSize = 23,
-    BadVersion = 24,
-    BadType = 25,
-    NoSecondary = 26,
-    BadXor = 27,
-    ShortData = 28,
-    TooLong = 29,
-    Protected = 30,
-    BadCount = 31,
-    NoFault = 32,
-    Unknown = 33,
-    UnknownFault = 34,
-}
-
-/// The four numbers of an answer.
-#[derive(Clone, Copy, Debug, PartialEq, Eq)]
-pub struct Answer {
-    pub outcome: Outcome,
-    pub id: u16,
-    pub dest: u8,
-    pub written: u16,
-}
-
-impl Answer {
-    const fn bare(outcome: Outcome) -> Answer {
-        Answer::of(outcome, 0)
-    }
-
-    const fn of(outcome: Outcome, id: u16) -> Answer {
-        Answer {
-            outcome,
-            id,
-            dest: 0,
-            written: 0,
-        }
-    }
-}
 
 const DISABLED: u8 = 0;
 const ENABLED: u8 = 1;
@@ -140,12 +87,8 @@ pub mod inner {
         match config.route(id) {
             Some(dest) => {
                 run.dispatched = run.dispatched.wrapping_add(1);
-                Answer {
-                    outcome: Outcome::Dispatched,
-                    id,
-                    dest,
-                    written: write(out, config.ground, id, command.arguments),
-                }
+                let written = write(out, config.ground, id, command.arguments);
+                Answer::dispatched(id, dest, written)
             }
             None => {
                 run.unknown = run.unknown.wrapping_add(1);
@@ -218,11 +161,7 @@ pub mod inner {
         run.dispatched = run.dispatched.wrapping_add(1);
         run.states[row] = ENABLED + config.latching[row];
         let arguments = &config.args[row][..usize::from(config.arg_counts[row])];
-        Answer {
-            outcome: Outcome::Dispatched,
-            id,
-            dest,
-            written: write(out, config.fault, id, arguments),
-        }
+        let written = write(out, config.fault, id, arguments);
+        Answer::dispatched(id, dest, written)
     }
 }

@@ -6,7 +6,7 @@ use differential::make::image::{self, Plan};
 use differential::make::state::{damage, good_run};
 use differential::make::{fields, packet};
 use differential::oracle;
-use ordinary::{Config, Run};
+use ordinary::{Config, Run, REPLY_ROOM, ROOM};
 
 fn config(c: &reading::Config) -> Config {
     let mut args = [[0; 16]; 32];
@@ -54,7 +54,7 @@ fn step(
     theirs: &mut reading::Run,
     event: &Event,
 ) {
-    let room = dice.one(&[260, 260, 260, 260, 300, 259, 0]);
+    let room = dice.one(&[ROOM, ROOM, ROOM, ROOM, 300, ROOM - 1, 0]);
     let mut out = dice.bytes(room);
     let mut expected = out.clone();
     let a = match event {
@@ -158,7 +158,7 @@ fn sessions() {
         // The same events as a recording, perhaps with a bad end, and with room or without.
         let n = dice.below(12);
         recording.extend(dice.bytes(n));
-        let most = 3010 * 266;
+        let most = 3010 * REPLY_ROOM;
         let room = dice.one(&[most, most, 100_000, 5]);
         let mut start = loaded.run;
         let expected = oracle::resume(&c, &mut start, &recording, room);
