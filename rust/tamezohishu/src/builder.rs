@@ -2,7 +2,7 @@
 
 use crate::ffi;
 use crate::numbers::BuildRefusal;
-use crate::LONGEST_BUILT;
+use crate::sizes::LONGEST_BUILT;
 
 /// What a packet is built from. A number may be past its limit: the builder refuses it, nothing is cut.
 #[derive(Clone, Copy, PartialEq, Eq, Debug)]

@@ -14,6 +14,7 @@
 
 use crate::configuration::Configuration;
 use crate::ffi;
+use crate::sizes::{PROTECTED_IDS, ROUTES, ROWS, ROW_ARGUMENTS};
 use crate::state::State;
 
 /// How many bytes a state is saved to.
@@ -120,7 +121,7 @@ const NO_RUN: ffi::Run = ffi::Run {
         i: 0,
         f: 0,
     },
-    states: [0; ffi::ROWS],
+    states: [0; ROWS],
 };
 
 const NO_CONFIG: ffi::Config = ffi::Config {
@@ -132,14 +133,14 @@ const NO_CONFIG: ffi::Config = ffi::Config {
         nprotected: 0,
         nrows: 0,
     },
-    routeids: [0; ffi::ROUTES],
-    dests: [0; ffi::ROUTES],
-    protected_ids: [0; ffi::PROTECTED_IDS],
-    faultids: [0; ffi::ROWS],
-    responses: [0; ffi::ROWS],
-    latching: [0; ffi::ROWS],
-    argcounts: [0; ffi::ROWS],
-    args: [0; ffi::ROWS * ffi::ROW_ARGS],
+    routeids: [0; ROUTES],
+    dests: [0; ROUTES],
+    protected_ids: [0; PROTECTED_IDS],
+    faultids: [0; ROWS],
+    responses: [0; ROWS],
+    latching: [0; ROWS],
+    argcounts: [0; ROWS],
+    args: [0; ROWS * ROW_ARGUMENTS],
 };
 
 impl State {

@@ -1,9 +1,7 @@
 //! The configuration: loaded once, and only ever read.
 
 use crate::ffi;
-use crate::numbers::LoadRefusal;
-use crate::state::State;
-use std::{error, fmt};
+use crate::sizes::{ROWS, ROW_ARGUMENTS};
 
 /// A configuration. It comes from [`Configuration::load`], or from bytes that an earlier one was saved to.
 #[derive(Clone, PartialEq, Eq, Debug)]
@@ -25,37 +23,7 @@ pub struct FaultRow<'a> {
     pub arguments: &'a [u8],
 }
 
-/// An image that was refused.
-#[derive(Clone, Copy, PartialEq, Eq, Debug)]
-pub struct LoadError {
-    pub refusal: LoadRefusal,
-    /// Where the first bad record begins.
-    pub offset: usize,
-}
-
-impl fmt::Display for LoadError {
-    fn fmt(&self, f: &mut fmt::Formatter<'_>) -> fmt::Result {
-        let LoadError { refusal, offset } = self;
-        write!(f, "record at byte {offset}: {refusal}")
-    }
-}
-
-impl error::Error for LoadError {}
-
 impl Configuration {
-    /// Reads a configuration image: the configuration and the state it starts in, or the refusal of its first bad record.
-    pub fn load(image: &[u8]) -> Result<(Configuration, State), LoadError> {
-        // SAFETY: the pointer is not null and has `len` bytes that nothing writes to meanwhile.
-        let loaded = unsafe { ffi::tz_load(image.as_ptr(), image.len()) };
-        match loaded.answer {
-            0 => Ok((Configuration(loaded.config), State(loaded.run))),
-            refusal => Err(LoadError {
-                refusal: LoadRefusal::from(refusal),
-                offset: loaded.offset,
-            }),
-        }
-    }
-
     /// The source number of commands from the ground.
     pub fn ground_source(&self) -> u16 {
         self.0.numbers.ground
@@ -88,13 +56,13 @@ impl Configuration {
 
     /// The fault rows in use, by rising fault id.
     pub fn fault_rows(&self) -> impl Iterator<Item = FaultRow<'_>> + '_ {
-        (0..self.0.numbers.nrows.min(ffi::ROWS)).map(|k| {
-            let places = &self.0.args[k * ffi::ROW_ARGS..][..ffi::ROW_ARGS];
+        (0..self.0.numbers.nrows.min(ROWS)).map(|k| {
+            let places = &self.0.args[k * ROW_ARGUMENTS..][..ROW_ARGUMENTS];
             FaultRow {
                 fault: self.0.faultids[k],
                 response: self.0.responses[k],
                 latching: self.0.latching[k] != 0,
-                arguments: &places[..usize::from(self.0.argcounts[k]).min(ffi::ROW_ARGS)],
+                arguments: &places[..usize::from(self.0.argcounts[k]).min(ROW_ARGUMENTS)],
             }
         })
     }

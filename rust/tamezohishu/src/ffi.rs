@@ -4,10 +4,7 @@
 //! where there are none. A Rust slice keeps these: its pointer is never null, and nothing else has a `&mut [u8]` meanwhile. A
 //! step is lent the columns of a configuration and the fault states of a run, each as a pointer to its array.
 
-pub const ROUTES: usize = 128;
-pub const PROTECTED_IDS: usize = 32;
-pub const ROWS: usize = 32;
-pub const ROW_ARGS: usize = 16;
+use crate::sizes::{PROTECTED_IDS, ROUTES, ROWS, ROW_ARGUMENTS};
 
 /// Which structs, signatures and numbers these are: `TZ_ABI` of the header.
 pub const ABI: u32 = 2;
@@ -34,7 +31,7 @@ pub struct Config {
     pub responses: [u16; ROWS],
     pub latching: [u8; ROWS],
     pub argcounts: [u8; ROWS],
-    pub args: [u8; ROWS * ROW_ARGS],
+    pub args: [u8; ROWS * ROW_ARGUMENTS],
 }
 
 #[repr(C)]
@@ -141,77 +138,6 @@ extern "C" {
         room: usize,
     ) -> Built;
     pub fn tz_load(image: *const u8, length: usize) -> Loaded;
-    pub fn tz_lent_packet(
-        numbers: Numbers,
-        routeids: *const [u16; ROUTES],
-        dests: *const [u8; ROUTES],
-        protected_ids: *const [u16; PROTECTED_IDS],
-        faultids: *const [u16; ROWS],
-        responses: *const [u16; ROWS],
-        latching: *const [u8; ROWS],
-        argcounts: *const [u8; ROWS],
-        args: *const [u8; ROWS * ROW_ARGS],
-        armed: u8,
-        ticks: u16,
-        counts: Counts,
-        states: *mut [u8; ROWS],
-        packet: *const u8,
-        length: usize,
-        out: *mut u8,
-        room: usize,
-    ) -> Left;
-    pub fn tz_lent_tick(
-        numbers: Numbers,
-        routeids: *const [u16; ROUTES],
-        dests: *const [u8; ROUTES],
-        protected_ids: *const [u16; PROTECTED_IDS],
-        faultids: *const [u16; ROWS],
-        responses: *const [u16; ROWS],
-        latching: *const [u8; ROWS],
-        argcounts: *const [u8; ROWS],
-        args: *const [u8; ROWS * ROW_ARGS],
-        armed: u8,
-        ticks: u16,
-        counts: Counts,
-        states: *const [u8; ROWS],
-    ) -> Left;
-    pub fn tz_lent_fault(
-        numbers: Numbers,
-        routeids: *const [u16; ROUTES],
-        dests: *const [u8; ROUTES],
-        protected_ids: *const [u16; PROTECTED_IDS],
-        faultids: *const [u16; ROWS],
-        responses: *const [u16; ROWS],
-        latching: *const [u8; ROWS],
-        argcounts: *const [u8; ROWS],
-        args: *const [u8; ROWS * ROW_ARGS],
-        armed: u8,
-        ticks: u16,
-        counts: Counts,
-        states: *mut [u8; ROWS],
-        fault: u16,
-        out: *mut u8,
-        room: usize,
-    ) -> Left;
-    pub fn tz_lent_resume(
-        numbers: Numbers,
-        routeids: *const [u16; ROUTES],
-        dests: *const [u8; ROUTES],
-        protected_ids: *const [u16; PROTECTED_IDS],
-        faultids: *const [u16; ROWS],
-        responses: *const [u16; ROWS],
-        latching: *const [u8; ROWS],
-        argcounts: *const [u8; ROWS],
-        args: *const [u8; ROWS * ROW_ARGS],
-        armed: u8,
-        ticks: u16,
-        counts: Counts,
-        states: *mut [u8; ROWS],
-        recording: *const u8,
-        length: usize,
-        out: *mut u8,
-        room: usize,
-    ) -> Reached;
     pub fn tz_replay(
         image: *const u8,
         image_length: usize,
@@ -220,6 +146,72 @@ extern "C" {
         out: *mut u8,
         room: usize,
     ) -> Replayed;
+}
+
+/// Functions that are lent a configuration and a run: the type of the fault states, then what each takes beside. A function of a
+/// shorter name stands before each: it lends the two, calls, and takes the rest of the run back. What is lent is said here once.
+macro_rules! lent {
+    ($($name:ident = $function:ident($states:ty $(; $($own:ident: $type:ty),+)?) -> $left:ty;)+) => {
+        extern "C" {
+            $(fn $function(
+                numbers: Numbers,
+                routeids: *const [u16; ROUTES],
+                dests: *const [u8; ROUTES],
+                protected_ids: *const [u16; PROTECTED_IDS],
+                faultids: *const [u16; ROWS],
+                responses: *const [u16; ROWS],
+                latching: *const [u8; ROWS],
+                argcounts: *const [u8; ROWS],
+                args: *const [u8; ROWS * ROW_ARGUMENTS],
+                armed: u8,
+                ticks: u16,
+                counts: Counts,
+                states: $states,
+                $($($own: $type,)+)?
+            ) -> $left;)+
+        }
+
+        $(/// # Safety
+        /// Each pointer is not null and has so many bytes behind it, and nothing else has those of `out`.
+        #[inline]
+        pub unsafe fn $name(config: &Config, run: &mut Run $($(, $own: $type)+)?) -> $left {
+            // SAFETY: each column and the fault states are arrays of the length that is asked for, and nothing else has the
+            // fault states; the caller answers for the pointers that he hands in.
+            let left = unsafe {
+                $function(
+                    config.numbers,
+                    &config.routeids,
+                    &config.dests,
+                    &config.protected_ids,
+                    &config.faultids,
+                    &config.responses,
+                    &config.latching,
+                    &config.argcounts,
+                    &config.args,
+                    run.armed,
+                    run.ticks,
+                    run.counts,
+                    &mut run.states,
+                    $($($own,)+)?
+                )
+            };
+            run.armed = left.armed;
+            run.ticks = left.ticks;
+            run.counts = left.counts;
+            left
+        })+
+    };
+}
+
+lent! {
+    packet = tz_lent_packet(
+        *mut [u8; ROWS]; packet: *const u8, length: usize, out: *mut u8, room: usize
+    ) -> Left;
+    tick = tz_lent_tick(*const [u8; ROWS]) -> Left;
+    fault = tz_lent_fault(*mut [u8; ROWS]; fault: u16, out: *mut u8, room: usize) -> Left;
+    resume = tz_lent_resume(
+        *mut [u8; ROWS]; recording: *const u8, length: usize, out: *mut u8, room: usize
+    ) -> Reached;
 }
 
 #[cfg(test)]

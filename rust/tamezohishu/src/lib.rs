@@ -46,31 +46,22 @@ mod builder;
 mod bytes;
 mod configuration;
 mod ffi;
+mod load;
 mod numbers;
 mod packet;
 mod replay;
+mod sizes;
 mod state;
 
 pub use archive::{check_archive, Mismatch};
 pub use builder::{build, build_into, Fields};
 pub use bytes::{CONFIGURATION_BYTES, STATE_BYTES};
-pub use configuration::{Configuration, FaultRow, LoadError, Route};
+pub use configuration::{Configuration, FaultRow, Route};
+pub use load::LoadError;
 pub use numbers::{BuildRefusal, FaultState, LoadRefusal, Outcome, Refusal, Stop};
 pub use packet::{arguments, judge, Judged};
 pub use replay::{replay, Piece, Recording, Replay, Replies, Reply, TooLong};
+pub use sizes::{
+    LONGEST_BUILT, PROTECTED_IDS, REPLY_HEAD, REPLY_ROOM, ROOM, ROUTES, ROWS, ROW_ARGUMENTS,
+};
 pub use state::{Answer, Counters, State};
-
-/// Most routes of a configuration.
-pub const ROUTES: usize = ffi::ROUTES;
-/// Most protected ids of a configuration.
-pub const PROTECTED_IDS: usize = ffi::PROTECTED_IDS;
-/// Most fault rows of a configuration.
-pub const ROWS: usize = ffi::ROWS;
-/// Most argument bytes of a fault row.
-pub const ROW_ARGUMENTS: usize = ffi::ROW_ARGS;
-/// Output room that a step asks for, in bytes, whatever it writes.
-pub const ROOM: usize = 260;
-/// The longest packet that the builder makes, in bytes: ten, 255 arguments and 127 pads.
-pub const LONGEST_BUILT: usize = 10 + 255 + 127;
-/// Output room that an event of a replay asks for: six bytes of numbers and a step's room.
-pub const REPLY_ROOM: usize = 266;

@@ -1,8 +1,10 @@
 //! Recordings of events, and their replay.
 
-use crate::configuration::{Configuration, LoadError};
+use crate::configuration::Configuration;
 use crate::ffi;
-use crate::numbers::{LoadRefusal, Outcome, Stop};
+use crate::load::LoadError;
+use crate::numbers::{Outcome, Stop};
+use crate::sizes::REPLY_HEAD;
 use crate::state::{Answer, Counters, State};
 use std::{error, fmt};
 
@@ -114,7 +116,7 @@ impl<'a> Iterator for Replies<'a> {
     type Item = Reply<'a>;
 
     fn next(&mut self) -> Option<Reply<'a>> {
-        let (numbers, rest) = self.0.split_first_chunk::<6>()?;
+        let (numbers, rest) = self.0.split_first_chunk::<REPLY_HEAD>()?;
         let [answer, id0, id1, destination, written0, written1] = *numbers;
         let written = u16::from_le_bytes([written0, written1]);
         let command = rest.get(..usize::from(written))?;
@@ -147,33 +149,11 @@ impl State {
         recording: &[u8],
         out: &'a mut [u8],
     ) -> Piece<'a> {
-        let (c, run) = (&configuration.0, &mut self.0);
-        // SAFETY: each column and the fault states are arrays of the length that is asked for; recording and output are not null
-        // and have so many bytes; nothing else has the fault states or `out`, so they overlap nothing.
-        let piece = unsafe {
-            ffi::tz_lent_resume(
-                c.numbers,
-                &c.routeids,
-                &c.dests,
-                &c.protected_ids,
-                &c.faultids,
-                &c.responses,
-                &c.latching,
-                &c.argcounts,
-                &c.args,
-                run.armed,
-                run.ticks,
-                run.counts,
-                &mut run.states,
-                recording.as_ptr(),
-                recording.len(),
-                out.as_mut_ptr(),
-                out.len(),
-            )
-        };
-        self.0.armed = piece.armed;
-        self.0.ticks = piece.ticks;
-        self.0.counts = piece.counts;
+        let (input, length) = (recording.as_ptr(), recording.len());
+        let (output, room) = (out.as_mut_ptr(), out.len());
+        // SAFETY: recording and output are not null and have so many bytes; nothing else has `out`, so it overlaps nothing.
+        let piece =
+            unsafe { ffi::resume(&configuration.0, &mut self.0, input, length, output, room) };
         Piece {
             stop: Stop::from(piece.stop),
             read: piece.read,
@@ -208,9 +188,6 @@ pub fn replay<'a>(
             written: part(out, replayed.wrote),
             counters: Counters::from(replayed.counts),
         }),
-        refusal => Err(LoadError {
-            refusal: LoadRefusal::from(refusal),
-            offset: replayed.offset,
-        }),
+        refusal => Err(LoadError::new(refusal, replayed.offset)),
     }
 }

@@ -36,6 +36,18 @@ impl fmt::Display for Answer {
     }
 }
 
+impl Answer {
+    /// Taken by reference: by value, the compiler takes it in one register and cuts the numbers out of it.
+    fn of(answer: &ffi::Answer) -> Answer {
+        Answer {
+            outcome: Outcome::from(answer.answer),
+            id: answer.id,
+            destination: answer.dest,
+            written: answer.written,
+        }
+    }
+}
+
 /// The seven counters, each modulo 65,536.
 #[derive(Clone, Copy, PartialEq, Eq, Debug, Default)]
 pub struct Counters {
@@ -78,94 +90,27 @@ impl State {
         packet: &[u8],
         out: &mut [u8],
     ) -> Answer {
-        let (c, run) = (&configuration.0, &mut self.0);
-        // SAFETY: each column and the fault states are arrays of the length that is asked for; packet and output are not null and
-        // have so many bytes; nothing else has the fault states or `out`, so they overlap nothing.
-        let left = unsafe {
-            ffi::tz_lent_packet(
-                c.numbers,
-                &c.routeids,
-                &c.dests,
-                &c.protected_ids,
-                &c.faultids,
-                &c.responses,
-                &c.latching,
-                &c.argcounts,
-                &c.args,
-                run.armed,
-                run.ticks,
-                run.counts,
-                &mut run.states,
-                packet.as_ptr(),
-                packet.len(),
-                out.as_mut_ptr(),
-                out.len(),
-            )
-        };
-        self.take(left)
+        let (input, length) = (packet.as_ptr(), packet.len());
+        let (output, room) = (out.as_mut_ptr(), out.len());
+        // SAFETY: packet and output are not null and have so many bytes; nothing else has `out`, so it overlaps nothing.
+        let left =
+            unsafe { ffi::packet(&configuration.0, &mut self.0, input, length, output, room) };
+        Answer::of(&left.answer)
     }
 
     /// The step of a clock tick.
     pub fn tick(&mut self, configuration: &Configuration) -> Answer {
-        let (c, run) = (&configuration.0, &self.0);
-        // SAFETY: each column and the fault states are arrays of the length that is asked for.
-        let left = unsafe {
-            ffi::tz_lent_tick(
-                c.numbers,
-                &c.routeids,
-                &c.dests,
-                &c.protected_ids,
-                &c.faultids,
-                &c.responses,
-                &c.latching,
-                &c.argcounts,
-                &c.args,
-                run.armed,
-                run.ticks,
-                run.counts,
-                &run.states,
-            )
-        };
-        self.take(left)
+        // SAFETY: there is no pointer beside what is lent.
+        let left = unsafe { ffi::tick(&configuration.0, &mut self.0) };
+        Answer::of(&left.answer)
     }
 
     /// The step of a fault number; `out` as in [`State::packet`].
     pub fn fault(&mut self, configuration: &Configuration, fault: u16, out: &mut [u8]) -> Answer {
-        let (c, run) = (&configuration.0, &mut self.0);
+        let (output, room) = (out.as_mut_ptr(), out.len());
         // SAFETY: as in `packet`.
-        let left = unsafe {
-            ffi::tz_lent_fault(
-                c.numbers,
-                &c.routeids,
-                &c.dests,
-                &c.protected_ids,
-                &c.faultids,
-                &c.responses,
-                &c.latching,
-                &c.argcounts,
-                &c.args,
-                run.armed,
-                run.ticks,
-                run.counts,
-                &mut run.states,
-                fault,
-                out.as_mut_ptr(),
-                out.len(),
-            )
-        };
-        self.take(left)
-    }
-
-    fn take(&mut self, left: ffi::Left) -> Answer {
-        self.0.armed = left.armed;
-        self.0.ticks = left.ticks;
-        self.0.counts = left.counts;
-        Answer {
-            outcome: Outcome::from(left.answer.answer),
-            id: left.answer.id,
-            destination: left.answer.dest,
-            written: left.answer.written,
-        }
+        let left = unsafe { ffi::fault(&configuration.0, &mut self.0, fault, output, room) };
+        Answer::of(&left.answer)
     }
 
     /// Whether the path is armed.
