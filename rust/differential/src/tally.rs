@@ -1,6 +1,7 @@
 //! How often each number was met, and which were not.
 
 use std::fmt::Write;
+use tamezohishu::{BuildRefusal, LoadRefusal, Outcome, Refusal, Stop};
 
 #[derive(Default)]
 pub struct Tally {
@@ -33,23 +34,24 @@ impl Numbers {
     }
 }
 
+fn named<T: Copy + Into<u8>>(cases: &[T]) -> impl Iterator<Item = u8> + '_ {
+    cases.iter().map(|case| (*case).into())
+}
+
+/// The numbers of refusals, and 0 for none.
+fn or_zero<T: Copy + Into<u8>>(refusals: &[T]) -> Vec<u8> {
+    std::iter::once(0).chain(named(refusals)).collect()
+}
+
 impl Tally {
-    /// The lists, each with the numbers that have to be met.
+    /// The lists, each with the numbers that have to be met: every one that has a name.
     fn lists(&self) -> [(&'static str, &Numbers, Vec<u8>); 6] {
         [
-            (
-                "judge",
-                &self.judge,
-                [0].into_iter().chain(22..=29).collect(),
-            ),
-            ("loading", &self.load, (0..=7).collect()),
-            ("step", &self.step, (10..=15).chain(20..=34).collect()),
-            ("replay", &self.stop, vec![0, 20, 60, 61, 62, 63]),
-            (
-                "build",
-                &self.build,
-                [0].into_iter().chain(40..=44).collect(),
-            ),
+            ("judge", &self.judge, or_zero(Refusal::NAMED)),
+            ("loading", &self.load, or_zero(LoadRefusal::NAMED)),
+            ("step", &self.step, named(Outcome::NAMED).collect()),
+            ("replay", &self.stop, named(Stop::NAMED).collect()),
+            ("build", &self.build, or_zero(BuildRefusal::NAMED)),
             ("form", &self.form, (0..=7).collect()),
         ]
     }

@@ -142,9 +142,9 @@ impl std::error::Error for Refusal {}
 impl std::error::Error for BuildRefusal {}
 
 impl Outcome {
-    /// Whether the step was a packet's and the judge refused it (22 to 29).
+    /// Whether the step was a packet's and the judge refused it: whether the number is a [`Refusal`]'s.
     pub fn is_rejected(self) -> bool {
-        (22..=29).contains(&self.number())
+        !matches!(Refusal::from(self.number()), Refusal::Other(_))
     }
 }
 
@@ -158,6 +158,7 @@ impl Stop {
 #[cfg(test)]
 mod tests {
     use super::*;
+    use crate::sizes::{REPLY_ROOM, ROOM};
 
     #[test]
     fn numbers_go_both_ways() {
@@ -192,8 +193,22 @@ mod tests {
         }
         for refusal in Refusal::NAMED {
             let outcome = Outcome::from(refusal.number());
-            assert!(outcome.is_rejected());
             assert_eq!(outcome.to_string(), refusal.to_string());
         }
+    }
+
+    #[test]
+    fn which_are_rejections() {
+        let all = (0..=255).filter(|number| Outcome::from(*number).is_rejected());
+        assert_eq!(all.collect::<Vec<u8>>(), [22, 23, 24, 25, 26, 27, 28, 29]);
+    }
+
+    /// The words have the numbers that [`crate::sizes`] has.
+    #[test]
+    fn words_name_the_rooms() {
+        let room = format!("output room below {ROOM} bytes");
+        assert_eq!(Outcome::NoRoom.to_string(), room);
+        let full = format!("less than {REPLY_ROOM} bytes for it");
+        assert!(Stop::OutputFull.to_string().ends_with(&full));
     }
 }
