@@ -7,6 +7,9 @@
 #include <string.h>
 #include "tamezohishu.h"
 
+/* The numbers of a reply, in bytes. */
+enum { HEAD = TZ_REPLY - TZ_ROOM };
+
 static int failed = 0;
 
 static void check(const char *what, int ok) {
@@ -181,7 +184,7 @@ int main(void) {
         tz_answer a = {replies[at], (uint16_t)(replies[at + 1] + 256 * replies[at + 2]), replies[at + 3],
             (uint16_t)(replies[at + 4] + 256 * replies[at + 5])};
         told &= same(a, session[k].want);
-        at += 6 + a.written;
+        at += HEAD + a.written;
     }
     check("the recording's answers", told && at == r.wrote && still(replies + at, sizeof replies - at, 0x5A));
 
@@ -189,7 +192,7 @@ int main(void) {
     again = l.run;
     tz_piece first = tz_resume(&l.config, &again, recording, 40, replies, sizeof replies);
     check("a first piece, cut in its fourth record", first.stop == TZ_STOP_CUT && first.read == 33 && first.count == 3
-        && first.wrote == 18 && again.armed == 1 && again.ticks == 1 && again.counts.a == 2 && again.counts.p == 1);
+        && first.wrote == 3 * HEAD && again.armed == 1 && again.ticks == 1 && again.counts.a == 2 && again.counts.p == 1);
     tz_piece second = tz_resume(&l.config, &again, recording + first.read, end - first.read, replies, sizeof replies);
     check("the recording in two pieces", first.count + second.count == 12 && first.wrote + second.wrote == r.wrote
         && second.stop == 0 && second.read == end - first.read && same_run(&again, &run));
@@ -205,8 +208,8 @@ int main(void) {
         memset(replies, 0x5A, sizeof replies);
         again = l.run;
         first = tz_resume(&l.config, &again, bad_records[k], k == 0 ? 8 : 9, replies, sizeof replies);
-        check("a bad record behind a tick", first.stop == stop && first.read == 4 && first.count == 1 && first.wrote == 6
-            && replies[0] == TZ_TICK && still(replies + 6, sizeof replies - 6, 0x5A));
+        check("a bad record behind a tick", first.stop == stop && first.read == 4 && first.count == 1 && first.wrote == HEAD
+            && replies[0] == TZ_TICK && still(replies + HEAD, sizeof replies - HEAD, 0x5A));
     }
     memset(replies, 0x5A, sizeof replies);
     r = tz_replay(c, 41, recording, end, replies, sizeof replies);

@@ -2,6 +2,7 @@
 //! stands in the output and where a replay stops is the C header's.
 
 use reading::{step_fault, step_packet, step_tick, Config, Run};
+use tamezohishu::{REPLY_ROOM, ROOM};
 
 /// What is to come back for a piece of a recording.
 #[derive(PartialEq, Eq, Debug)]
@@ -60,11 +61,11 @@ pub fn resume(config: &Config, run: &mut Run, recording: &[u8], room: usize) -> 
                 break;
             }
         };
-        if room - expected.written.len() < 266 {
+        if room - expected.written.len() < REPLY_ROOM {
             expected.stop = OUTPUT_FULL;
             break;
         }
-        let mut out = [0; 260];
+        let mut out = [0; ROOM];
         let answer = match event {
             Event::Packet(packet) => step_packet(config, run, packet, &mut out),
             Event::Tick => step_tick(config, run),

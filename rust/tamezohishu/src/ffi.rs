@@ -217,6 +217,7 @@ lent! {
 #[cfg(test)]
 mod tests {
     use super::*;
+    use crate::sizes::{LONGEST_BUILT, REPLY_ROOM, ROOM};
     use std::mem::{offset_of, size_of};
 
     /// The same numbers stand in `tests/layout.c`, which a C compiler holds against the header.
@@ -260,5 +261,8 @@ mod tests {
         assert_eq!(offset_of!(Replayed, stop), 16);
         assert_eq!(offset_of!(Replayed, wrote), 40);
         assert_eq!(offset_of!(Replayed, counts), 48);
+        assert_eq!((ROUTES, PROTECTED_IDS), (128, 32));
+        assert_eq!((ROWS, ROW_ARGUMENTS), (32, 16));
+        assert_eq!((ROOM, REPLY_ROOM, LONGEST_BUILT), (260, 266, 392));
     }
 }

@@ -1,8 +1,9 @@
-/* Sizes and places of the header's structs on x86-64, held by a C compiler: the numbers of src/ffi.rs. */
+/* Sizes and places of the header's structs on x86-64, and its own sizes, held by a C compiler: the numbers of src/ffi.rs. */
 #include "../../../include/tamezohishu.h"
 
 #define SIZE(t, n) _Static_assert(sizeof(t) == n, #t)
 #define PLACE(t, f, n) _Static_assert(offsetof(t, f) == n, #t "." #f)
+#define NUMBER(c, n) _Static_assert(c == n, #c)
 
 SIZE(tz_numbers, 32);
 PLACE(tz_numbers, nroutes, 8);
@@ -42,3 +43,10 @@ SIZE(tz_replayed, 64);
 PLACE(tz_replayed, stop, 16);
 PLACE(tz_replayed, wrote, 40);
 PLACE(tz_replayed, counts, 48);
+NUMBER(TZ_ROUTES, 128);
+NUMBER(TZ_PROTECTED_IDS, 32);
+NUMBER(TZ_ROWS, 32);
+NUMBER(TZ_ROW_ARGS, 16);
+NUMBER(TZ_ROOM, 260);
+NUMBER(TZ_REPLY, 266);
+NUMBER(TZ_LONGEST_BUILT, 392);

@@ -11,6 +11,7 @@ use crate::mirror::hex;
 use crate::tally::Tally;
 use crate::{oracle, raw};
 use reading::{Config, Run};
+use tamezohishu::{REPLY_HEAD, REPLY_ROOM, ROOM};
 
 pub fn case(dice: &mut Dice, tally: &mut Tally) -> Result<(), String> {
     let mut plan = Plan::good(dice);
@@ -35,7 +36,7 @@ pub fn case(dice: &mut Dice, tally: &mut Tally) -> Result<(), String> {
     let mut both = Both::new(config.clone(), first.clone(), armed);
     for (k, event) in events.iter().enumerate() {
         let any = dice.below(617);
-        let room = dice.one(&[260, 260, 260, 260, 260, 260, 300, any, 259, 0]);
+        let room = dice.one(&[ROOM, ROOM, ROOM, ROOM, ROOM, ROOM, 300, any, ROOM - 1, 0]);
         let step = both.step(dice, tally, event, room);
         step.map_err(|e| tell(format!("step {k}: {e}")))?;
     }
@@ -85,7 +86,7 @@ fn whole(
 ) -> Result<(), String> {
     let loaded = reading::load(image);
     let mut run = start.clone();
-    let most = recording.len() / 4 * 266;
+    let most = recording.len() / 4 * REPLY_ROOM;
     let half = most / 2;
     let room = dice.one(&[most, most, most, half, 0]);
     // "A refused reader gives its refusal and zeros for all else."
@@ -122,7 +123,7 @@ fn whole(
     // The safe crate's iterator cuts the replies where they were put together.
     if let Ok(replay) = tamezohishu::replay(image, recording, &mut out) {
         let replies: Vec<_> = replay.replies().collect();
-        let bytes: usize = replies.iter().map(|r| 6 + r.command.len()).sum();
+        let bytes: usize = replies.iter().map(|r| REPLY_HEAD + r.command.len()).sum();
         same(
             "replies",
             (replies.len(), bytes),
@@ -141,7 +142,7 @@ fn pieces(
     first: &Run,
     recording: &[u8],
 ) -> Result<(), String> {
-    let most = recording.len() / 4 * 266;
+    let most = recording.len() / 4 * REPLY_ROOM;
     let mut run = first.clone();
     let whole = oracle::resume(config, &mut run, recording, most);
 
@@ -154,7 +155,7 @@ fn pieces(
         let few = dice.from(1, left.min(3000));
         let length = dice.one(&[few, few, few, any, left]);
         let any = dice.below(3000);
-        let room = dice.one(&[any, any, 20_000, 20_000, 266, 265, 0]);
+        let room = dice.one(&[any, any, 20_000, 20_000, REPLY_ROOM, REPLY_ROOM - 1, 0]);
         let piece = both.resume(dice, tally, &recording[at..at + length], room)?;
         at += piece.read;
         count += piece.count;
@@ -210,6 +211,6 @@ fn bad_end(
         Event::Tick.record(&mut recording);
     }
     let mut both = Both::new(config.clone(), first.clone(), u8::from(first.armed));
-    let room = dice.one(&[2000, 2000, 300, 600, 265]);
+    let room = dice.one(&[2000, 2000, 300, 600, REPLY_ROOM - 1]);
     both.resume(dice, tally, &recording, room).map(|_| ())
 }

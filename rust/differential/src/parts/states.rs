@@ -9,6 +9,7 @@ use crate::make::image::Plan;
 use crate::make::state::{damage, good_run};
 use crate::mirror::hex;
 use crate::tally::Tally;
+use tamezohishu::{REPLY_ROOM, ROOM};
 
 pub fn case(dice: &mut Dice, tally: &mut Tally) -> Result<(), String> {
     let image = Plan::good(dice).image();
@@ -30,12 +31,12 @@ pub fn case(dice: &mut Dice, tally: &mut Tally) -> Result<(), String> {
     ];
     let mut recording = Vec::new();
     for event in &events {
-        let room = dice.one(&[260, 260, 300, 0]);
+        let room = dice.one(&[ROOM, ROOM, 300, 0]);
         let mut both = Both::new(config.clone(), run.clone(), armed);
         both.step(dice, tally, event, room)?;
         event.record(&mut recording);
     }
-    let room = dice.one(&[0, 265, 266, 2000]);
+    let room = dice.one(&[0, REPLY_ROOM - 1, REPLY_ROOM, 2000]);
     let length = dice.one(&[0, recording.len(), recording.len()]);
     let mut both = Both::new(config, run, armed);
     both.resume(dice, tally, &recording[..length], room)?;
