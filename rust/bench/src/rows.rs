@@ -611,7 +611,8 @@ pub fn check() -> ExitCode {
             });
             check_of(watch, name, tables)
         });
-        let columns = columns.fold(true, |all, one| all && one);
+        // Each is checked, whatever one before it came to.
+        let columns = columns.fold(true, |all, one| all & one);
         let table = Table::new(128, 32, 32);
         let [routes, faults] = [ROUTES, FAULTS].map(|column| table.every_id(column));
         let mut events: Vec<Event> = routes.into_iter().map(Event::Packet).collect();

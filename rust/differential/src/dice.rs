@@ -16,14 +16,15 @@ impl Dice {
         Dice(mixed(seed) ^ part.rotate_left(17) ^ case)
     }
 
-    pub fn next(&mut self) -> u64 {
+    /// Eight bytes.
+    pub fn eight(&mut self) -> u64 {
         self.0 = self.0.wrapping_add(0x9E37_79B9_7F4A_7C15);
         mixed(self.0)
     }
 
     /// A number from 0 to n - 1; 0 where n is 0.
     pub fn below(&mut self, n: usize) -> usize {
-        ((u128::from(self.next()) * n as u128) >> 64) as usize
+        ((u128::from(self.eight()) * n as u128) >> 64) as usize
     }
 
     /// A number from `low` to `high`, both included.
@@ -37,11 +38,11 @@ impl Dice {
     }
 
     pub fn byte(&mut self) -> u8 {
-        (self.next() >> 56) as u8
+        (self.eight() >> 56) as u8
     }
 
     pub fn two(&mut self) -> u16 {
-        (self.next() >> 48) as u16
+        (self.eight() >> 48) as u16
     }
 
     /// One of the given, which are not none.
@@ -51,7 +52,7 @@ impl Dice {
 
     pub fn fill(&mut self, bytes: &mut [u8]) {
         for chunk in bytes.chunks_mut(8) {
-            let word = self.next().to_le_bytes();
+            let word = self.eight().to_le_bytes();
             chunk.copy_from_slice(&word[..chunk.len()]);
         }
     }

@@ -45,7 +45,7 @@ fn builds() {
 /// Two cases are different, and one is the same each time.
 #[test]
 fn dice_are_of_their_case() {
-    let first = |seed, part, case| Dice::new(seed, part, case).next();
+    let first = |seed, part, case| Dice::new(seed, part, case).eight();
     assert_eq!(first(1, 2, 3), first(1, 2, 3));
     assert_ne!(first(1, 2, 3), first(1, 2, 4));
     assert_ne!(first(1, 2, 3), first(1, 3, 3));

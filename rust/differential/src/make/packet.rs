@@ -21,7 +21,7 @@ fn size(packet: &mut [u8]) {
 
 /// A well-formed packet with made-up APID, sequence fields, function code's high bit and pad bytes.
 pub fn well_formed(dice: &mut Dice, packet: &mut Vec<u8>, id: u16, arguments: &[u8], pads: usize) {
-    let word = dice.next().to_le_bytes();
+    let word = dice.eight().to_le_bytes();
     packet.clear();
     packet.extend_from_slice(&[0x18 | (word[0] & 7), word[1], word[2], word[3], 0, 0]);
     packet.extend_from_slice(&[(word[4] & 0x80) | (pads as u8 & 0x7F), 0]);
