@@ -7,7 +7,7 @@ fails where something does not.
 import glob, os, re, sys
 
 NAME = r"[^\s(){};,.`]+"
-CODE = re.compile(r'(?:pub )?(?:extern "C" )?(?:fn|const|struct|enum) (\w+)')
+CODE = re.compile(r'(?:pub(?:\(crate\))? )?(?:extern "C" )?(?:fn|const|struct|enum) (\w+)')
 HEAD = re.compile(rf" *(?:abbrev |unfoldable )?(?:pub )?(?:(?:data|record) ({NAME})|({NAME})(?= :))")
 SPECS = sorted(glob.glob("crates/*/specs/*.antt"))
 

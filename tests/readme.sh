@@ -48,7 +48,7 @@ done <"$room/words"
 
 # files_in TEXT: the files under crates/ that a text names; one without its folder stands in the folder before it
 files_in() {
-    printf '%s\n' "$1" | grep -oE '`[A-Za-z/]+\.(antt|rt)`' | tr -d '`' | grep -v '^crates/' |
+    printf '%s\n' "$1" | grep -oE '`[A-Za-z_/]+\.(antt|rt)`' | tr -d '`' | grep -v '^crates/' |
         awk -F/ '{ if (NF > 1) folder = $1 "/" $2; print "crates/" folder "/" $NF }'
 }
 
@@ -74,7 +74,7 @@ while IFS= read -r line; do bad "$line"; done <"$room/missing"
 for source in crates/*/src/*.rt; do
     [ -e "$(dirname "$source")/main.rt" ] || awk -v file="$source" '
         /^\/\/ internal:/ { marked = 1 }
-        /^(pub )?(extern "C" )?fn / { public = /^pub/; head = 1; asks = 0; name = $0; sub(/.*fn /, "", name); sub(/[^a-z_0-9].*/, "", name) }
+        /^(pub |pub\(crate\) )?(extern "C" )?fn / { public = /^pub /; head = 1; asks = 0; name = $0; sub(/.*fn /, "", name); sub(/[^a-z_0-9].*/, "", name) }
         head && /^    requires/ { asks = 1 }
         head && /^[{]|^[^ ].* [{]$/ { if (public) print (asks ? "internal" : "open"), (marked == asks ? "" : name " of " file); head = 0; marked = 0 }' "$source"
 done >"$room/functions"

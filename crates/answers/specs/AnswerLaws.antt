@@ -2,23 +2,23 @@
 use mathlib.Core.Path.{_≡_, refl, sym, ap, _∙_}
 use mathlib.Core.Bool.{Bool, true, false}
 use mathlib.Core.Option.{Option, none, some}
-use mathlib.Core.List.{List, map}
+use mathlib.Core.List.{List, [], _∷_, map}
 use Prim.Native.Nat.{ℕ, _<_, _≤_}
 use native.Mathlib.Omega.{arith}
+use lib.Dec.{eqb}
 use lib.ListN.{length, getD, take}
 use borrow.Author.Tests.{eq-eqb, ne-eqb}
 use Rattle.state.specs.declared.types.Numbers.{Numbers}
-use Rattle.state.specs.Tables.{Route, FaultRow, routeId, faultId, listed, routeAt}
+use Rattle.state.specs.Tables.{Route, routeId, listed, routeAt}
 use Rattle.state.specs.Rules.{member}
 use Rattle.state.specs.Lookup.{placeIn, Column}
 use Rattle.state.specs.LookupLaws.{is-member, no-member}
-use Rattle.state.specs.ArrayLaws.{map-listed, column-is}
-use Rattle.faultstates.specs.FaultStates.{enabled, stateFor}
+use Rattle.state.specs.ArrayLaws.{listed-at, column-of}
+use Rattle.faultstates.specs.FaultStates.{enabled}
 use Rattle.answers.specs.declared.own.Own.{Own}
 use Rattle.answers.specs.Answers.{blocked, ownAnswer, routeAnswer, answerFor, faultAnswer}
 use Rattle.dispatch.specs.Dispatch.{for10, destOf}
 use Rattle.answers.specs.OwnLaws.{own-not-10}
-use Rattle.answers.specs.RowLaws.{listed-at, dest-at}
 
 -- the arrays of a state that keeps its rules, as they are lent
 pub record Lent (n : Numbers) (routeids dests protected faultids : List ℕ) : Type 0 where
@@ -40,19 +40,31 @@ module _ (protected : List ℕ) (id : ℕ) where
 
 -- ---- routes
 
+abbrev noRoute : Route
+noRoute = record { id = 0; dest = 0 }
+
+dest-at : (id : ℕ) (routes : List Route) → destOf id routes ≡ getD routes (placeIn id (map routeId routes)) noRoute .dest
+dest-at id [] = refl
+dest-at id (r ∷ routes) = go (dest-at id routes) (eqb id (r .id)) refl
+  where
+    go : destOf id routes ≡ getD routes (placeIn id (map routeId routes)) noRoute .dest → (b : Bool) → eqb id (r .id) ≡ b
+        → destOf id (r ∷ routes) ≡ getD (r ∷ routes) (placeIn id (map routeId (r ∷ routes))) noRoute .dest
+    go ih true e = simp e
+    go ih false e = simp e ih
+
 module _ {ids : List ℕ} {n : ℕ} (c : Column 128 ids n) (id k : ℕ) (e : k ≡ placeIn id (take n ids)) where
   pub route-none : n ≤ k → 33 ≡ routeAnswer (take n ids) id
   unfolding routeAnswer
-  route-none h = simp (no-member c id k e h)
+  route-none h = simp (no-member (c .slots) id k e h)
 
   pub route-found : k < n → 10 ≡ routeAnswer (take n ids) id
   unfolding routeAnswer
-  route-found h = simp (is-member c id k e h)
+  route-found h = simp (is-member (c .slots) id k e h)
 
   pub route-dest : (dests : List ℕ) → k < n → getD dests k 0 ≡ destOf id (listed (routeAt ids dests) 0 n)
   route-dest dests h =
       let rows = listed (routeAt ids dests) 0 n in
-      let are : map routeId rows ≡ take n ids = map-listed routeId (routeAt ids dests) 0 n ∙ column-is ids n (omega arith) in
+      let are : map routeId rows ≡ take n ids = column-of routeId (routeAt ids dests) ids n (λ i. refl) (omega (arith, c .slots .long, c .slots .within)) in
       sym (dest-at id rows ∙ rw (are, ← e) (ap (λ (r : Route). r .dest) (listed-at (routeAt ids dests) _ n k h)))
 
 -- a routed id gets 10, and its destination is set
@@ -81,16 +93,16 @@ own-dest faultIds k args n x e = rw (e, own-not-10 faultIds k args)
 
 -- ---- a fault
 
-module _ (rows : List FaultRow) (states : List ℕ) (f : ℕ) where
-  pub fault-34 : member f (map faultId rows) ≡ false → 34 ≡ faultAnswer rows states f
+module _ (states : List ℕ) {place : Option ℕ} where
+  pub fault-34 : place ≡ none → 34 ≡ faultAnswer states place
   unfolding faultAnswer
-  fault-34 h = simp h
+  fault-34 e = rw e
 
-  module _ (m : member f (map faultId rows) ≡ true) where
-    pub fault-13 : (stateFor f rows states ≡ enabled → ⊥) → 13 ≡ faultAnswer rows states f
+  module _ (k : ℕ) (e : place ≡ some k) where
+    pub fault-13 : (getD states k 0 ≡ enabled → ⊥) → 13 ≡ faultAnswer states place
     unfolding faultAnswer
-    fault-13 h = simp (m, ne-eqb _ _ h)
+    fault-13 h = rw e (simp (ne-eqb _ _ h))
 
-    pub fault-10 : stateFor f rows states ≡ enabled → 10 ≡ faultAnswer rows states f
+    pub fault-10 : getD states k 0 ≡ enabled → 10 ≡ faultAnswer states place
     unfolding faultAnswer
-    fault-10 h = simp (m, eq-eqb _ _ h)
+    fault-10 h = rw e (simp (eq-eqb _ _ h))

@@ -1,14 +1,14 @@
 -- Document 01, "Steps and what they return": which answer an accepted packet and a fault get, in the paper's order.
-use mathlib.Core.Bool.{Bool, cond, not, _&&_, _||_}
+use mathlib.Core.Bool.{Bool, not, _&&_, _||_}
 use mathlib.Core.Option.{Option, none, some}
 use mathlib.Core.List.{List, map}
 use Prim.Native.Nat.{ℕ}
 use lib.Dec.{eqb}
 use lib.ListN.{length}
 use Rattle.wire.specs.Check.{check}
-use Rattle.state.specs.Tables.{FaultRow, Tables, faultId, routed}
+use Rattle.state.specs.Tables.{Tables, faultId, routed}
 use Rattle.state.specs.Rules.{member}
-use Rattle.faultstates.specs.FaultStates.{enabled, stateFor}
+use Rattle.faultstates.specs.FaultStates.{enabled, placeOf, isPlace, stateFor}
 use Rattle.answers.specs.declared.own.Own.{Own}
 use Rattle.answers.specs.Own.{ruleOf, ownCommand, faultArg}
 
@@ -20,7 +20,7 @@ blocked protected armed id = not armed && member id protected
 unfoldable pub ownAnswer : List ℕ → Own → List ℕ → ℕ
 ownAnswer faultIds k args =
     check (eqb (length args) (ruleOf k .wanted)) 31
-    (check (not (ruleOf k .onRow) || member (faultArg args) faultIds) 32
+    (check (not (ruleOf k .onRow) || isPlace (placeOf (faultArg args) faultIds)) 32
     (ruleOf k .done))
 
 -- 33 neither own nor routed, else 10
@@ -42,8 +42,8 @@ abbrev pub answerTo : Tables → Bool → ℕ → List ℕ → ℕ
 answerTo t armed id args =
     answerFor (routed t) (t .protected) (map faultId (t .rows)) armed id (ownCommand (t .base) id) args
 
--- a fault: 34 not in the table, 13 its response disabled or latched, else 10
-unfoldable pub faultAnswer : List FaultRow → List ℕ → ℕ → ℕ
-faultAnswer rows states f =
-    check (member f (map faultId rows)) 34
-    (check (eqb (stateFor f rows states) enabled) 13 10)
+-- a fault, by the place that its id means: 34 not in the table, 13 its response disabled or latched, else 10
+unfoldable pub faultAnswer : List ℕ → Option ℕ → ℕ
+faultAnswer states place =
+    check (isPlace place) 34
+    (check (eqb (stateFor place states) enabled) 13 10)

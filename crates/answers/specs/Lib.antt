@@ -1,5 +1,4 @@
 pub mod Own
 pub mod Answers
 pub mod OwnLaws
-pub mod RowLaws
 pub mod AnswerLaws

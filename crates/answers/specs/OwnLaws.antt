@@ -10,8 +10,9 @@ use lib.Dec.{leb, eqb}
 use lib.ListN.{length}
 use borrow.Author.Tests.{eq-eqb, ne-eqb, le-leb, lt-leb, leb-true}
 use Rattle.wire.specs.Check.{check}
-use Rattle.state.specs.Rules.{own, member}
+use Rattle.state.specs.Rules.{own}
 use Rattle.state.specs.KeepsLaws.{both}
+use Rattle.faultstates.specs.FaultStates.{placeOf, isPlace}
 use Rattle.answers.specs.declared.own.Own.{Own}
 use Rattle.answers.specs.declared.own.Own.the-variants.{Arm, ResetCounters, NoOp, NoOpWithArgument, Enable, Disable, Clear, ClearAll}
 use Rattle.answers.specs.declared.own.Selection.{Selection}
@@ -158,13 +159,13 @@ module _ (faultIds : List ℕ) (k : Own) (args : List ℕ) where
   own-31 h = simp (ne-eqb (length args) (ruleOf k .wanted) h)
 
   module _ (e : length args ≡ ruleOf k .wanted) where
-    pub own-32 : ruleOf k .onRow ≡ true → member (faultArg args) faultIds ≡ false → 32 ≡ ownAnswer faultIds k args
+    pub own-32 : ruleOf k .onRow ≡ true → placeOf (faultArg args) faultIds ≡ none → 32 ≡ ownAnswer faultIds k args
     unfolding ownAnswer
     own-32 r h = simp (eq-eqb (length args) (ruleOf k .wanted) e, r, h)
 
-    pub own-row : ruleOf k .onRow ≡ true → member (faultArg args) faultIds ≡ true → 12 ≡ ownAnswer faultIds k args
+    pub own-row : ruleOf k .onRow ≡ true → (place : ℕ) → placeOf (faultArg args) faultIds ≡ some place → 12 ≡ ownAnswer faultIds k args
     unfolding ownAnswer
-    own-row r h = simp (eq-eqb (length args) (ruleOf k .wanted) e, r, h, row-12 k r)
+    own-row r place h = simp (eq-eqb (length args) (ruleOf k .wanted) e, r, h, row-12 k r)
 
     pub own-taken : ruleOf k .onRow ≡ false → ruleOf k .done ≡ ownAnswer faultIds k args
     unfolding ownAnswer
@@ -173,7 +174,7 @@ module _ (faultIds : List ℕ) (k : Own) (args : List ℕ) where
   -- it is never 10
   pub own-not-10 : eqb (ownAnswer faultIds k args) 10 ≡ false
   unfolding ownAnswer
-  own-not-10 = go (eqb (length args) (ruleOf k .wanted)) (not (ruleOf k .onRow) || member (faultArg args) faultIds) (done-is k)
+  own-not-10 = go (eqb (length args) (ruleOf k .wanted)) (not (ruleOf k .onRow) || isPlace (placeOf (faultArg args) faultIds)) (done-is k)
     where
       go : (a b : Bool) → (ruleOf k .done ≡ 11) ⊎ (ruleOf k .done ≡ 12) → eqb (check a 31 (check b 32 (ruleOf k .done))) 10 ≡ false
       go true true (inl e) = rw e

@@ -5,10 +5,8 @@ use Prim.Native.Nat.{ℕ, _-_}
 use lib.Dec.{eqb}
 use lib.ListN.{getD}
 use Rattle.state.specs.declared.types.Arm.{Arm}
+pub use Rattle.state.specs.Tables.{unarmed}
 use Rattle.arming.specs.declared.Ticked.{Ticked}
-
-abbrev pub unarmed : Arm
-unarmed = record { armed = false; ticks = 0 }
 
 abbrev pub armedFor : ℕ → Arm
 armedFor ticks = record { armed = true; ticks = ticks }

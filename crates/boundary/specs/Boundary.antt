@@ -12,12 +12,12 @@ use Rattle.state.specs.declared.types.Config.{Config}
 use Rattle.state.specs.declared.types.Arm.{Arm}
 use Rattle.state.specs.declared.types.Counts.{Counts}
 use Rattle.state.specs.declared.types.Run.{Run}
-use Rattle.state.specs.Tables.{tablesOf}
+use Rattle.state.specs.Tables.{tablesOf, runFrom}
 use Rattle.dispatch.specs.Dispatch.{over}
 use Rattle.steprules.specs.declared.types.Answer.{Answer}
 use Rattle.steprules.specs.declared.types.Left.{Left}
 use Rattle.steprules.specs.declared.types.Stepped.{Stepped}
-use Rattle.steprules.specs.Bare.{bareAnswer}
+use Rattle.steprules.specs.Makers.{bareAnswer}
 use Rattle.steprules.specs.Step.{packetStepOf, packetOutput, tickStepOf, faultStepOf, faultOutput}
 use Rattle.image.specs.Image.{loadOf}
 use Rattle.replayrules.specs.declared.types.Piece.{Piece}
@@ -39,10 +39,17 @@ abbrev pub armInward : ℕ → ℕ → Arm
 armInward armed ticks = record { armed = eqb armed 1; ticks = ticks }
 
 abbrev pub inward : Saved → Run
-inward s = record { arm = armInward (s .armed) (s .ticks); counts = s .counts; states = s .states }
+inward s = runFrom (armInward (s .armed) (s .ticks)) (s .counts) (s .states)
+
+abbrev pub savedFrom : ℕ → ℕ → Counts → List ℕ → Saved
+savedFrom armed ticks counts states = record { armed = armed; ticks = ticks; counts = counts; states = states }
+
+-- the number of a bool
+abbrev pub armedOutward : Arm → ℕ
+armedOutward arm = cond (arm .armed) 1 0
 
 abbrev pub outward : Run → Saved
-outward r = record { armed = cond (r .arm .armed) 1 0; ticks = r .arm .ticks; counts = r .counts; states = r .states }
+outward r = savedFrom (armedOutward (r .arm)) (r .arm .ticks) (r .counts) (r .states)
 
 -- 0 or 1
 abbrev pub told : Saved → Bool
@@ -99,14 +106,14 @@ resumeBytes c s recording room = cond (told s) (pieceBytes c (inward s) recordin
 
 -- ---- where the fault states are lent
 
-abbrev pub savedFrom : ℕ → ℕ → Counts → List ℕ → Saved
-savedFrom armed ticks counts states = record { armed = armed; ticks = ticks; counts = counts; states = states }
+abbrev pub handedFrom : ℕ → ℕ → Counts → Answer → Handed
+handedFrom armed ticks counts answer = record { armed = armed; ticks = ticks; counts = counts; answer = answer }
 
 abbrev pub leftOutward : Left → Handed
-leftOutward l = record { armed = cond (l .arm .armed) 1 0; ticks = l .arm .ticks; counts = l .counts; answer = l .answer }
+leftOutward l = handedFrom (armedOutward (l .arm)) (l .arm .ticks) (l .counts) (l .answer)
 
 abbrev pub refusedLeft : ℕ → ℕ → Counts → Handed
-refusedLeft armed ticks counts = record { armed = armed; ticks = ticks; counts = counts; answer = bareAnswer 20 }
+refusedLeft armed ticks counts = handedFrom armed ticks counts (bareAnswer 20)
 
 -- what a step hands back and the fault states that it leaves
 abbrev pub stepping : Handed → List ℕ → Stepping
@@ -120,12 +127,15 @@ pub record FaultCalls (c : Config) (s : Saved) (f : ℕ) (out : List ℕ) (h : H
   pub step : stepping h states ≡ faultCall c s f (length out)
   pub output : left ≡ faultOutput (tablesOf c) (h .answer .answer) f out
 
+abbrev pub portionFrom : ℕ → ℕ → Counts → ℕ → ℕ → ℕ → ℕ → Portion
+portionFrom armed ticks counts stop read count wrote =
+    record { armed = armed; ticks = ticks; counts = counts; stop = stop; read = read; count = count; wrote = wrote }
+
 abbrev pub reachedOutward : Reached → Portion
-reachedOutward r =
-    record { armed = cond (r .arm .armed) 1 0; ticks = r .arm .ticks; counts = r .counts; stop = r .stop; read = r .read; count = r .count; wrote = r .wrote }
+reachedOutward r = portionFrom (armedOutward (r .arm)) (r .arm .ticks) (r .counts) (r .stop) (r .read) (r .count) (r .wrote)
 
 abbrev pub refusedReached : ℕ → ℕ → Counts → Portion
-refusedReached armed ticks counts = record { armed = armed; ticks = ticks; counts = counts; stop = 20; read = 0; count = 0; wrote = 0 }
+refusedReached armed ticks counts = portionFrom armed ticks counts 20 0 0 0
 
 abbrev pub resuming : Portion → List ℕ → Resuming
 resuming p states =

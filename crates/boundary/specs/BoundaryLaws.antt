@@ -18,7 +18,8 @@ use Rattle.steprules.specs.declared.types.Left.{Left}
 use Rattle.steprules.specs.Step.{packetOutput, tickStepOf, faultOutput}
 use Rattle.steprules.specs.StepLaws.{packet-unsent}
 use Rattle.steprules.specs.FaultStepLaws.{fault-unsent}
-use Rattle.steprules.specs.Lent.{stepLeft, PacketLeaves, FaultLeaves}
+use Rattle.steprules.specs.Makers.{stepLeft}
+use Rattle.steprules.specs.Lent.{PacketLeaves, FaultLeaves}
 use Rattle.replayrules.specs.declared.types.Reached.{Reached}
 use Rattle.replayrules.specs.Replay.{Resumes}
 use Rattle.boundary.specs.declared.types.Saved.{Saved}

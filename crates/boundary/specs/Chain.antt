@@ -1,7 +1,7 @@
 -- The C boundary carries demands 1 and 3: a refused call hands back the very run that was saved, and a row of calls from a load
 -- on has the plain replies, buffers and counters.
 use mathlib.Core.Path.{_≡_, refl, sym, ap, _∙_}
-use mathlib.Core.Bool.{Bool, true, false, cond}
+use mathlib.Core.Bool.{Bool, true, false, cond, false≢true}
 use mathlib.Core.List.{List, [], _∷_, map}
 use Prim.Native.Nat.{ℕ, _≤_}
 use native.Mathlib.Omega.{arith}
@@ -11,15 +11,16 @@ use borrow.Author.Tests.{leb-true, eqb-true, eqb-false}
 use Rattle.packetrules.specs.Layout.{commandId}
 use Rattle.state.specs.declared.types.Config.{Config}
 use Rattle.state.specs.declared.types.Run.{Run}
-use Rattle.state.specs.Tables.{tablesOf, configFrom}
+use Rattle.state.specs.Tables.{tablesOf, configFrom, runFrom}
 use Rattle.state.specs.Rules.{member}
+use Rattle.packetrules.specs.Rejection.{isRejection}
 use Rattle.counters.specs.Counters.{rejectedCounts}
-use Rattle.dispatch.specs.Dispatch.{over}
+use Rattle.dispatch.specs.Dispatch.{over, stepRoom}
 use Rattle.steprules.specs.declared.types.Stepped.{Stepped}
-use Rattle.steprules.specs.Bare.{bareAnswer, unchanged}
+use Rattle.steprules.specs.Makers.{bareAnswer, unchanged}
 use Rattle.steprules.specs.Step.{packetStepOf, tickStepOf, faultStepOf}
 use Rattle.steprules.specs.Demand1.{packet-refused-unchanged, fault-refused-unchanged, tick-refused-unchanged, rejected-moves-only-r, packet-output-stays, fault-output-stays}
-use Rattle.image.specs.Records.{Record, recordsOf}
+use Rattle.records.specs.Records.{Record, recordsOf}
 use Rattle.image.specs.Image.{loadOf}
 use Rattle.history.specs.Plain.{Event, packet, tick, fault, Reply, accepted, tables}
 use Rattle.history.specs.Path.{replyWith}
@@ -38,7 +39,7 @@ use Rattle.boundary.specs.Boundary.{inward, outward, told, loadingOf, St
 
 -- is the run that it was
 pub taken-back : (r : Run) → inward (outward r) ≡ r
-taken-back r = ap (λ (b : Bool). record { arm = record { armed = b; ticks = r .arm .ticks }; counts = r .counts; states = r .states }) (go (r .arm .armed))
+taken-back r = ap (λ (b : Bool). runFrom (record { armed = b; ticks = r .arm .ticks }) (r .counts) (r .states)) (go (r .arm .armed))
   where
     go : (b : Bool) → eqb (cond b 1 0) 1 ≡ b
     go true = refl
@@ -54,7 +55,7 @@ saved-told r = go (r .arm .armed)
 
 -- taken back and saved again, a run with such a number is what it was
 pub saved-again : (s : Saved) → told s ≡ true → outward (inward s) ≡ s
-saved-again s t = ap (λ (n : ℕ). record { armed = n; ticks = s .ticks; counts = s .counts; states = s .states }) (go (eqb (s .armed) 1) refl)
+saved-again s t = ap (λ (n : ℕ). savedFrom n (s .ticks) (s .counts) (s .states)) (go (eqb (s .armed) 1) refl)
   where
     go : (b : Bool) → eqb (s .armed) 1 ≡ b → cond b 1 0 ≡ s .armed
     go true e = sym (eqb-true _ _ e)
@@ -114,10 +115,10 @@ module _ (c : Config) (s : Saved) where
 
 -- a rejected packet: R of the saved run, and every other number stays
 abbrev pub onlyR : Saved → Saved
-onlyR s = record { armed = s .armed; ticks = s .ticks; counts = rejectedCounts (s .counts); states = s .states }
+onlyR s = savedFrom (s .armed) (s .ticks) (rejectedCounts (s .counts)) (s .states)
 
--- so of a packet answered 22 to 29, whatever the configuration and the saved run
-pub packet-call-rejected : (c : Config) (s : Saved) (p : List ℕ) (room : ℕ) → 22 ≤ packetCall c s p room .answer .answer → packetCall c s p room .answer .answer ≤ 29
+-- so of a packet that is rejected, whatever the configuration and the saved run
+pub packet-call-rejected : (c : Config) (s : Saved) (p : List ℕ) (room : ℕ) → isRejection (packetCall c s p room .answer .answer) ≡ true
     → packetCall c s p room .run ≡ onlyR s
 unfolding packetCall
 packet-call-rejected c s p room = go (told s) refl
@@ -125,9 +126,9 @@ packet-call-rejected c s p room = go (told s) refl
     x : Stepped
     x = packetStepOf c (inward s) p room
 
-    go : (b : Bool) → told s ≡ b → 22 ≤ callBy s x b .answer .answer → callBy s x b .answer .answer ≤ 29 → callBy s x b .run ≡ onlyR s
-    go true t h l = ap outward (rejected-moves-only-r c (inward s) p room h l) ∙ ap onlyR (saved-again s t)
-    go false t h l = absurd (omega arith)
+    go : (b : Bool) → told s ≡ b → isRejection (callBy s x b .answer .answer) ≡ true → callBy s x b .run ≡ onlyR s
+    go true t h = ap outward (rejected-moves-only-r c (inward s) p room h) ∙ ap onlyR (saved-again s t)
+    go false t h = absurd (false≢true h)
 
 -- so of an exported function, by its contract: what it hands back and the fault states that it leaves are the run that it was
 -- given, and the output is as it was
@@ -236,7 +237,7 @@ module _ (image : List ℕ) (z : loadingOf image .answer ≡ 0) where
 
     -- the arm rule: a protected command from an accepted packet is let past exactly when the calls before it with room say so
     pub c-arm-rule :
-        (p : List ℕ) → accepted p ≡ true → member (commandId p) (tables records .protected) ≡ true → (room : ℕ) → 260 ≤ room
+        (p : List ℕ) → accepted records p ≡ true → member (commandId p) (tables records .protected) ≡ true → (room : ℕ) → stepRoom ≤ room
         → PastExactly records (heard [] xs) (callOn config (afterCallsOn config begun xs) (packet p) room .answer .answer)
     c-arm-rule p a m room l =
         let s = same-after config (loadOf image .run) xs in
@@ -305,7 +306,7 @@ chain-agrees image z {xs} b k =
 -- and the arm rule: behind any such row, a protected command from an accepted packet is let past exactly when the calls say so
 pub chain-arm-rule : (image : List ℕ) → loadingOf image .answer ≡ 0 → {xs : List Buffered} {rs : List Reply} {os : List (List ℕ)} {last : Saved}
     → CallBytes (map callOf xs) → Chain (loadingOf image .config) (loadingOf image .run) xs rs os last
-    → {p out : List ℕ} {h : Handed} {states left : List ℕ} → accepted p ≡ true → member (commandId p) (tables (recordsOf image) .protected) ≡ true → 260 ≤ length out
+    → {p out : List ℕ} {h : Handed} {states left : List ℕ} → accepted (recordsOf image) p ≡ true → member (commandId p) (tables (recordsOf image) .protected) ≡ true → stepRoom ≤ length out
     → PacketCalls (loadingOf image .config) last p out h states left
     → PastExactly (recordsOf image) (heard [] (map callOf xs)) (h .answer .answer)
 chain-arm-rule image z {xs} b k {p} {out} a m l q =

@@ -13,7 +13,7 @@ use Rattle.records.specs.Records.{recordsOf}
 use Rattle.image.specs.Image.{loadOf}
 use Rattle.history.specs.Plain.{replies, latestFirst}
 use Rattle.history.specs.Known.{knownCounts}
-use Rattle.replayrules.specs.Recording.{outputFull, eventsOf, flat}
+use Rattle.replayrules.specs.Recording.{outputFull, eventsOf, allBytes}
 use Rattle.replayrules.specs.Replay.{pieceOf, pieceBytes}
 use Rattle.replayrules.specs.Pieces.{Turn, chain, chainBytes, allMore, pieces-agree, as-one-call}
 use Rattle.boundary.specs.declared.types.Saved.{Saved}
@@ -109,7 +109,7 @@ module _ (c : Config) where
 pub c-pieces-agree : (image : List ℕ) → loadingOf image .answer ≡ 0 → (a : List ℕ) (room : ℕ) (xs : List Turn) → Bytes (a ++ allMore xs)
     → let es = eventsOf (recordsOf (a ++ allMore xs)) in
     let n = chainOn (loadingOf image .config) (loadingOf image .run) a room xs .count in
-    (chainBytesOn (loadingOf image .config) (loadingOf image .run) a room xs ≡ flat (take n (replies (recordsOf image) [] es)))
+    (chainBytesOn (loadingOf image .config) (loadingOf image .run) a room xs ≡ allBytes (take n (replies (recordsOf image) [] es)))
     × (chainOn (loadingOf image .config) (loadingOf image .run) a room xs .run .counts ≡ knownCounts (recordsOf image) (latestFirst [] (take n es)))
 c-pieces-agree image z a room xs b =
     rw (same-chain (loadOf image .config) (loadOf image .run) a room xs, same-chain-bytes (loadOf image .config) (loadOf image .run) a room xs) (pieces-agree image z a room xs b)

@@ -8,7 +8,7 @@ use state::types::Run;
 use steprules::types::Answer;
 use steprules::types::Left;
 ghost use mathlib.Core.Path.{_≡_};
-ghost use Rattle.boundary.specs.Boundary.{armInward, outward, leftOutward, reachedOutward, refusedLeft, refusedReached};
+ghost use Rattle.boundary.specs.Boundary.{armInward, outward, handedFrom, portionFrom, leftOutward, reachedOutward, refusedLeft, refusedReached};
 
 // A run as C keeps it: armed is 0 or 1, and a state with any other number breaks its rules.
 #[repr(C)]
@@ -81,6 +81,17 @@ pub fn run_out(run: Run) -> Saved
     }
 }
 
+fn handed_of(armed: u8, ticks: u16, counts: Counts, answer: Answer) -> Handed
+    ensures { λ r. ⌜ r ≡ handedFrom armed ticks counts answer ⌝ }
+{
+    Handed {
+        armed,
+        ticks,
+        counts,
+        answer,
+    }
+}
+
 // What a step left, to be handed out.
 pub fn step_out(l: Left) -> Handed
     ensures { λ r. ⌜ r ≡ leftOutward l ⌝ }
@@ -88,23 +99,35 @@ pub fn step_out(l: Left) -> Handed
     let left = l.arm;
     let counts = l.counts;
     let answer = l.answer;
-    Handed {
-        armed: left.armed as u8,
-        ticks: left.ticks,
-        counts,
-        answer,
-    }
+    handed_of(left.armed as u8, left.ticks, counts, answer)
 }
 
 // An armed number that is neither 0 nor 1: 20, and all as it came.
 pub fn step_refused(armed: u8, ticks: u16, counts: Counts) -> Handed
     ensures { λ r. ⌜ r ≡ refusedLeft armed ticks counts ⌝ }
 {
-    Handed {
+    handed_of(armed, ticks, counts, steprules::types::bare(20))
+}
+
+fn portion_of(
+    armed: u8,
+    ticks: u16,
+    counts: Counts,
+    stop: u8,
+    read: usize,
+    count: usize,
+    wrote: usize,
+) -> Portion
+    ensures { λ r. ⌜ r ≡ portionFrom armed ticks counts stop read count wrote ⌝ }
+{
+    Portion {
         armed,
         ticks,
         counts,
-        answer: steprules::types::bare(20),
+        stop,
+        read,
+        count,
+        wrote,
     }
 }
 
@@ -114,28 +137,20 @@ pub fn piece_out(r: Reached) -> Portion
 {
     let last = r.arm;
     let counts = r.counts;
-    Portion {
-        armed: last.armed as u8,
-        ticks: last.ticks,
+    portion_of(
+        last.armed as u8,
+        last.ticks,
         counts,
-        stop: r.stop,
-        read: r.read,
-        count: r.count,
-        wrote: r.wrote,
-    }
+        r.stop,
+        r.read,
+        r.count,
+        r.wrote,
+    )
 }
 
 // An armed number that is neither 0 nor 1: 20, nothing read, and all as it came.
 pub fn piece_refused(armed: u8, ticks: u16, counts: Counts) -> Portion
     ensures { λ r. ⌜ r ≡ refusedReached armed ticks counts ⌝ }
 {
-    Portion {
-        armed,
-        ticks,
-        counts,
-        stop: 20,
-        read: 0,
-        count: 0,
-        wrote: 0,
-    }
+    portion_of(armed, ticks, counts, 20, 0, 0, 0)
 }

@@ -1,10 +1,11 @@
 -- Each way of the counters after a packet, by its answer.
 use mathlib.Core.Path.{_≡_, refl}
 use mathlib.Core.Bool.{Bool, true, false}
-use Prim.Native.Nat.{ℕ, _<_, _≤_}
+use Prim.Native.Nat.{ℕ, _<_}
 use native.Mathlib.Omega.{arith}
 use lib.Dec.{eqb}
-use borrow.Author.Tests.{eq-eqb, ne-eqb, le-leb, lt-leb, eqb-false}
+use borrow.Author.Tests.{eq-eqb, ne-eqb, eqb-false}
+use Rattle.packetrules.specs.Rejection.{isRejection, below-not}
 use Rattle.state.specs.declared.types.Counts.{Counts}
 use Rattle.counters.specs.Counters.{up, noCounts, invalidAnswer, packetCounts, rejectedCounts, movedCounts, faultCounts}
 
@@ -17,26 +18,26 @@ module _ (n : ℕ) (reset : Bool) (c : Counts) where
   unfolding movedCounts packetCounts
   counts-10 e = rw e refl
 
-  pub counts-22 : 22 ≤ n → n < 30 → record { a = c .a; r = up true (c .r); d = c .d; p = c .p; u = c .u; i = c .i; f = c .f } ≡ movedCounts n reset c
+  pub counts-rejected : isRejection n ≡ true → record { a = c .a; r = up true (c .r); d = c .d; p = c .p; u = c .u; i = c .i; f = c .f } ≡ movedCounts n reset c
   unfolding movedCounts rejectedCounts
-  counts-22 l h = simp (le-leb 22 n l, le-leb n 29 (omega arith))
+  counts-rejected h = rw h refl
 
-  -- below the judge's answers
+  -- below the answers that refuse a packet
   pub counts-own : n < 22 → (n ≡ 10 → ⊥) → (n ≡ 12 → ⊥) → acceptedOnly c ≡ movedCounts n reset c
   unfolding movedCounts packetCounts
   counts-own l t w =
-      simp (lt-leb 22 n l, ne-eqb n 12 w, ne-eqb n 10 t, ne-eqb n 30 (λ e. omega arith), ne-eqb n 33 (λ e. omega arith), ne-eqb n 31 (λ e. omega arith), ne-eqb n 32 (λ e. omega arith))
+      simp (below-not n l, ne-eqb n 12 w, ne-eqb n 10 t, ne-eqb n 30 (λ e. omega arith), ne-eqb n 33 (λ e. omega arith), ne-eqb n 31 (λ e. omega arith), ne-eqb n 32 (λ e. omega arith))
 
   pub counts-30 : n ≡ 30 → record { a = up true (c .a); r = c .r; d = c .d; p = up true (c .p); u = c .u; i = c .i; f = c .f } ≡ movedCounts n reset c
   unfolding movedCounts packetCounts
   counts-30 e = rw e refl
 
   -- 31 or 32
-  pub counts-invalid : 30 < n → n < 33 → record { a = up true (c .a); r = c .r; d = c .d; p = c .p; u = c .u; i = up true (c .i); f = c .f } ≡ movedCounts n reset c
+  pub counts-invalid : isRejection n ≡ false → 30 < n → n < 33 → record { a = up true (c .a); r = c .r; d = c .d; p = c .p; u = c .u; i = up true (c .i); f = c .f } ≡ movedCounts n reset c
   unfolding movedCounts packetCounts
-  counts-invalid l h =
+  counts-invalid j l h =
       let either : invalidAnswer n ≡ true = go (eqb n 31) refl in
-      simp (either, le-leb 22 n (omega arith), lt-leb n 29 (omega arith), ne-eqb n 12 (λ e. omega arith), ne-eqb n 10 (λ e. omega arith), ne-eqb n 30 (λ e. omega arith), ne-eqb n 33 (λ e. omega arith))
+      simp (either, j, ne-eqb n 12 (λ e. omega arith), ne-eqb n 10 (λ e. omega arith), ne-eqb n 30 (λ e. omega arith), ne-eqb n 33 (λ e. omega arith))
     where
       go : (b : Bool) → eqb n 31 ≡ b → invalidAnswer n ≡ true
       go true e = rw e refl
@@ -46,10 +47,10 @@ module _ (n : ℕ) (reset : Bool) (c : Counts) where
   unfolding movedCounts packetCounts
   counts-33 e = rw e refl
 
-  pub counts-high : 33 < n → acceptedOnly c ≡ movedCounts n reset c
+  pub counts-high : isRejection n ≡ false → 33 < n → acceptedOnly c ≡ movedCounts n reset c
   unfolding movedCounts packetCounts
-  counts-high l =
-      simp (le-leb 22 n (omega arith), lt-leb n 29 (omega arith), ne-eqb n 12 (λ e. omega arith), ne-eqb n 10 (λ e. omega arith), ne-eqb n 30 (λ e. omega arith), ne-eqb n 33 (λ e. omega arith), ne-eqb n 31 (λ e. omega arith), ne-eqb n 32 (λ e. omega arith))
+  counts-high j l =
+      simp (j, ne-eqb n 12 (λ e. omega arith), ne-eqb n 10 (λ e. omega arith), ne-eqb n 30 (λ e. omega arith), ne-eqb n 33 (λ e. omega arith), ne-eqb n 31 (λ e. omega arith), ne-eqb n 32 (λ e. omega arith))
 
   pub counts-12 : n ≡ 12 → reset ≡ false → acceptedOnly c ≡ movedCounts n reset c
   unfolding movedCounts packetCounts

@@ -1,24 +1,23 @@
 -- Document 01, the answer table's column "counter". Counters wrap at 65,536.
 use mathlib.Core.Bool.{Bool, true, false, cond, _&&_, _||_}
 use Prim.Native.Nat.{ℕ, _+_, _%_}
-use lib.Dec.{eqb, leb}
+use lib.Dec.{eqb}
+use Rattle.packetrules.specs.Rejection.{isRejection}
 use Rattle.state.specs.declared.types.Counts.{Counts}
+pub use Rattle.state.specs.Tables.{noCounts}
 
 -- one more where the test holds
 abbrev pub up : Bool → ℕ → ℕ
 up true x = (x + 1) % 65536
 up false x = x
 
-abbrev pub noCounts : Counts
-noCounts = record { a = 0; r = 0; d = 0; p = 0; u = 0; i = 0; f = 0 }
-
 -- an own command that was not well formed: wrong argument count, or a fault id not in the table
 abbrev pub invalidAnswer : ℕ → Bool
 invalidAnswer n = eqb n 31 || eqb n 32
 
 -- an accepted packet with the answer n
-abbrev pub accepted : ℕ → Counts → Counts
-accepted n c =
+abbrev pub acceptedCounts : ℕ → Counts → Counts
+acceptedCounts n c =
     record {
       a = up true (c .a);
       r = c .r;
@@ -32,19 +31,15 @@ accepted n c =
 -- a reset that was done (answer 12) leaves all seven at zero, its own count included; whether the packet's id selects it is
 -- told
 unfoldable pub packetCounts : ℕ → Bool → Counts → Counts
-packetCounts n reset c = cond (eqb n 12 && reset) noCounts (accepted n c)
+packetCounts n reset c = cond (eqb n 12 && reset) noCounts (acceptedCounts n c)
 
 -- a rejected packet
 unfoldable pub rejectedCounts : Counts → Counts
 rejectedCounts c = record { a = c .a; r = up true (c .r); d = c .d; p = c .p; u = c .u; i = c .i; f = c .f }
 
--- the answers of the judge, by which a packet is rejected
-abbrev pub rejection : ℕ → Bool
-rejection n = leb 22 n && leb n 29
-
 -- a packet by its answer alone, rejected or accepted
 unfoldable pub movedCounts : ℕ → Bool → Counts → Counts
-movedCounts n reset c = cond (rejection n) (rejectedCounts c) (packetCounts n reset c)
+movedCounts n reset c = cond (isRejection n) (rejectedCounts c) (packetCounts n reset c)
 
 -- a fault with the answer n
 unfoldable pub faultCounts : ℕ → Counts → Counts

@@ -1,5 +1,7 @@
 // The seven counters: which of them a step moves. They wrap at 65,536.
+use packetrules::rejection::is_rejection;
 use state::types::Counts;
+use state::types::no_counts;
 ghost use mathlib.Core.Path.{_≡_};
 ghost use Prim.Native.Nat.{_<_};
 ghost use Rattle.counters.specs.Counters.{up, movedCounts, faultCounts};
@@ -28,7 +30,7 @@ pub fn after_packet(c: Counts, n: u8, reset: bool) -> Counts
     if n < 22 {
         return after_own(c, n, reset);
     }
-    if n < 30 {
+    if is_rejection(n) {
         next.r = bump(true, c.r);
         return next;
     }
@@ -61,15 +63,7 @@ fn after_own(c: Counts, n: u8, reset: bool) -> Counts
     if !reset {
         return next;
     }
-    Counts {
-        a: 0,
-        r: 0,
-        d: 0,
-        p: 0,
-        u: 0,
-        i: 0,
-        f: 0,
-    }
+    no_counts()
 }
 
 // After a fault with the answer n.

@@ -1,7 +1,8 @@
 -- Document 01: the bytes of a command that is sent on, and what a step leaves in the output.
+use mathlib.Core.Path.{_≡_}
 use mathlib.Core.Bool.{cond}
 use mathlib.Core.List.{List, [], _∷_}
-use Prim.Native.Nat.{ℕ, _/_, _%_}
+use Prim.Native.Nat.{ℕ, _+_, _/_, _%_}
 use lib.Dec.{eqb}
 use lib.ListN.{length}
 use Rattle.state.specs.Tables.{Route}
@@ -11,9 +12,17 @@ pub use Rattle.wire.specs.Put.{over}
 abbrev pub commandBytes : ℕ → ℕ → List ℕ → List ℕ
 commandBytes source id args = source / 256 ∷ source % 256 ∷ id / 256 ∷ id % 256 ∷ length args ∷ args
 
+-- the longest has 255 arguments: the room that a packet or a fault asks for
+abbrev pub stepRoom : ℕ
+stepRoom = 260
+
 -- a step writes output only for answer 10
 unfoldable pub sent : ℕ → ℕ → ℕ → List ℕ → List ℕ → List ℕ
 sent n source id args out = cond (eqb n 10) (over (commandBytes source id args) out) out
+
+-- a command that was written over an output: the bytes that it takes, and what stands in the output
+abbrev pub Wrote : ℕ → ℕ → List ℕ → List ℕ → ℕ → List ℕ → Type 0
+Wrote source id args out written left = (written ≡ 5 + length args) × (left ≡ over (commandBytes source id args) out)
 
 -- a number that is set for 10 only, else 0
 abbrev pub for10 : ℕ → ℕ → ℕ

@@ -1,16 +1,18 @@
 // The dispatch writer: the bytes of a command at the start of the output.
 use wire::word::high;
 use wire::word::low;
-ghost use mathlib.Core.Path.{_≡_};
-ghost use Prim.Native.Nat.{_+_, _≤_};
+ghost use Prim.Native.Nat.{_≤_};
 ghost use lib.ListN.{length};
-ghost use Rattle.dispatch.specs.Dispatch.{commandBytes, over};
+ghost use Rattle.dispatch.specs.Dispatch.{stepRoom, Wrote};
+
+// The room that a packet or a fault asks for: the longest command has 255 arguments.
+pub const STEP_ROOM: usize = 260;
 
 // Source, command id, argument count, arguments; returns the bytes written.
 // internal: for the steps, which have seen that there is room.
 pub fn write(out: &mut [u8], source: u16, id: u16, args: &[u8]) -> u16
-    requires { ⌜ (260 ≤ length (now out)) × (length (now args) ≤ 255) ⌝ }
-    ensures { λ r. ⌜ (r ≡ 5 + length (now (args .entry))) × (now (out .exit) ≡ over (commandBytes source id (now (args .entry))) (now (out .entry))) ⌝ }
+    requires { ⌜ (stepRoom ≤ length (now out)) × (length (now args) ≤ 255) ⌝ }
+    ensures { λ r. ⌜ Wrote source id (now (args .entry)) (now (out .entry)) r (now (out .exit)) ⌝ }
 {
     let head = [
         high(source),

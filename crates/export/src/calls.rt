@@ -106,7 +106,8 @@ pub extern "C" fn tz_lent_packet<'a>(
     out: &mut [u8],
 ) -> Handed
     ensures { λ r. ⌜ PacketCalls
-        (configFrom numbers (now (routeids .entry)) (now (dests .entry)) (now (protected .entry)) (now (faultids .entry)) (now (responses .entry)) (now (latching .entry)) (now (argcounts .entry)) (now (args .entry)))
+        (configFrom numbers (now (routeids .entry)) (now (dests .entry)) (now (protected .entry)) (now (faultids .entry))
+        (now (responses .entry)) (now (latching .entry)) (now (argcounts .entry)) (now (args .entry)))
         (savedFrom armed ticks counts (now (states .entry))) (now (packet .entry)) (now (out .entry)) r (now (states .exit)) (now (out .exit)) ⌝ }
 {
     if 1 < armed {
@@ -148,7 +149,8 @@ pub extern "C" fn tz_lent_tick<'a>(
     states: &'a [u8; 32],
 ) -> Handed
     ensures { λ r. ⌜ stepping r (now (states .entry))
-        ≡ tickCall (configFrom numbers (now (routeids .entry)) (now (dests .entry)) (now (protected .entry)) (now (faultids .entry)) (now (responses .entry)) (now (latching .entry)) (now (argcounts .entry)) (now (args .entry)))
+        ≡ tickCall (configFrom numbers (now (routeids .entry)) (now (dests .entry)) (now (protected .entry)) (now (faultids .entry))
+        (now (responses .entry)) (now (latching .entry)) (now (argcounts .entry)) (now (args .entry)))
         (savedFrom armed ticks counts (now (states .entry))) ⌝ }
 {
     if 1 < armed {
@@ -190,7 +192,8 @@ pub extern "C" fn tz_lent_fault<'a>(
     out: &mut [u8],
 ) -> Handed
     ensures { λ r. ⌜ FaultCalls
-        (configFrom numbers (now (routeids .entry)) (now (dests .entry)) (now (protected .entry)) (now (faultids .entry)) (now (responses .entry)) (now (latching .entry)) (now (argcounts .entry)) (now (args .entry)))
+        (configFrom numbers (now (routeids .entry)) (now (dests .entry)) (now (protected .entry)) (now (faultids .entry))
+        (now (responses .entry)) (now (latching .entry)) (now (argcounts .entry)) (now (args .entry)))
         (savedFrom armed ticks counts (now (states .entry))) fault (now (out .entry)) r (now (states .exit)) (now (out .exit)) ⌝ }
 {
     if 1 < armed {
@@ -234,7 +237,8 @@ pub extern "C" fn tz_lent_resume<'a>(
     out: &mut [u8],
 ) -> Portion
     ensures { λ r. ⌜ ResumeCalls
-        (configFrom numbers (now (routeids .entry)) (now (dests .entry)) (now (protected .entry)) (now (faultids .entry)) (now (responses .entry)) (now (latching .entry)) (now (argcounts .entry)) (now (args .entry)))
+        (configFrom numbers (now (routeids .entry)) (now (dests .entry)) (now (protected .entry)) (now (faultids .entry))
+        (now (responses .entry)) (now (latching .entry)) (now (argcounts .entry)) (now (args .entry)))
         (savedFrom armed ticks counts (now (states .entry))) (now (recording .entry)) (now (out .entry)) r (now (states .exit)) (now (out .exit)) ⌝ }
 {
     if 1 < armed {
@@ -262,7 +266,8 @@ pub extern "C" fn tz_lent_resume<'a>(
 #[no_mangle]
 pub extern "C" fn tz_replay(image: &[u8], recording: &[u8], out: &mut [u8]) -> Replayed
     ensures told { λ r. ⌜ r ≡ replayOf (now (image .entry)) (now (recording .entry)) (length (now (out .entry))) ⌝ }
-    ensures output { λ r. ⌜ now (out .exit) ≡ over (replayBytes (now (image .entry)) (now (recording .entry)) (length (now (out .entry)))) (now (out .entry)) ⌝ }
+    ensures output { λ r. ⌜ now (out .exit)
+        ≡ over (replayBytes (now (image .entry)) (now (recording .entry)) (length (now (out .entry)))) (now (out .entry)) ⌝ }
 {
     replay::replay::replay(image, recording, out)
 }

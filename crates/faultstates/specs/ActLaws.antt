@@ -1,55 +1,79 @@
--- An event on the row of a fault id acts on that row, and on no other.
-use mathlib.Core.Path.{_≡_, refl, sym, _∙_}
+-- A fault id means one place at most, that of a row with this id; an event on the row at a place acts on that row, and on no other.
+use mathlib.Core.Path.{_≡_, refl, sym, ap, _∙_}
 use mathlib.Core.Bool.{Bool, true, false, false≢true}
-use mathlib.Core.List.{List, [], _∷_, map}
-use Prim.Native.Nat.{ℕ, _≤_}
-use native.Mathlib.Omega.{arith}
-use lib.Dec.{eqb}
-use lib.ListN.{length}
-use borrow.Author.Tests.{ne-eqb, eqb-true}
-use Rattle.state.specs.Tables.{FaultRow, faultId}
+use mathlib.Core.List.{List}
+use mathlib.Core.Option.{Option, none, some, Option·some-injective}
+use Prim.Native.Nat.{ℕ, _<_, _≤_}
+use lib.Dec.{ltb}
+use lib.ListN.{length, getD, take, length-set}
+use lib.Seq.{getD-set-same, getD-set-other, set-getD}
+use borrow.Author.Tests.{lt-ltb, le-ltb, ltb-true}
+use Rattle.state.specs.Tables.{FaultRow}
 use Rattle.state.specs.Rules.{member}
-use Rattle.faultstates.specs.FaultStates.{fault, nextState, rowAfter, actOn, rowFor, stateFor}
+use Rattle.state.specs.Keeps.{Rising}
+use Rattle.state.specs.Lookup.{placeIn, Slots}
+use Rattle.state.specs.LookupLaws.{count, found-member, stands-there, place-only}
+use Rattle.faultstates.specs.FaultStates.{rowAfter, within, placeOf, isPlace, rowFor, onward, latchedBy}
 
--- on its row: the state that the row goes to from the state that it had
-module _ (e f : ℕ) where
-  pub acts-on-its-row : (rows : List FaultRow) (ss : List ℕ) → member f (map faultId rows) ≡ true → length rows ≤ length ss
-      → stateFor f rows (actOn e f rows ss) ≡ rowAfter (rowFor f rows .latching) (stateFor f rows ss) e
-  acts-on-its-row [] ss m l = absurd (false≢true m)
-  acts-on-its-row (r ∷ rows) [] m l = absurd (omega arith)
-  acts-on-its-row (r ∷ rows) (s ∷ ss) m l = go (λ i. acts-on-its-row rows ss i (omega arith)) (eqb f (r .id)) refl
+-- ---- which place a fault id means
+
+-- the place that a lookup gives among the n ids in use, where n stands for none
+module _ {limit : ℕ} {ids : List ℕ} {n : ℕ} (c : Slots limit ids n) (f k : ℕ) (e : k ≡ placeIn f (take n ids)) where
+  place-is : placeOf f (take n ids) ≡ within n k
+  unfolding placeOf
+  place-is = rw (count c, ← e)
+
+  pub place-below : k < n → placeOf f (take n ids) ≡ some k
+  place-below h = place-is ∙ simp (lt-ltb k n h)
+
+  pub place-past : n ≤ k → placeOf f (take n ids) ≡ none
+  place-past h = place-is ∙ simp (le-ltb k n h)
+
+module _ (f : ℕ) (ids : List ℕ) where
+  -- there is one exactly where some row has the id
+  pub place-member : isPlace (placeOf f ids) ≡ member f ids
+  unfolding placeOf
+  place-member = go (ltb (placeIn f ids) (length ids)) refl
     where
-      go : (member f (map faultId rows) ≡ true → stateFor f rows (actOn e f rows ss) ≡ rowAfter (rowFor f rows .latching) (stateFor f rows ss) e) → (b : Bool) → eqb f (r .id) ≡ b
-          → stateFor f (r ∷ rows) (actOn e f (r ∷ rows) (s ∷ ss)) ≡ rowAfter (rowFor f (r ∷ rows) .latching) (stateFor f (r ∷ rows) (s ∷ ss)) e
-      go ih true q = simp q
-      go ih false q = simp q (ih (simp q at m))
+      go : (b : Bool) → ltb (placeIn f ids) (length ids) ≡ b → isPlace (placeOf f ids) ≡ member f ids
+      go true e = simp e (sym e ∙ found-member f ids)
+      go false e = simp e (sym e ∙ found-member f ids)
 
-  -- of a command, which does not ask whether the row latches: the entry of the table of states by events
-  pub commands-its-row : (rows : List FaultRow) (ss : List ℕ) → member f (map faultId rows) ≡ true → length rows ≤ length ss → (e ≡ fault → ⊥)
-      → stateFor f rows (actOn e f rows ss) ≡ nextState (stateFor f rows ss) e
-  unfolding rowAfter
-  commands-its-row rows ss m l n = acts-on-its-row rows ss m l ∙ simp (ne-eqb e fault n)
-
-  -- and on no other
-  pub acts-on-no-other : (rows : List FaultRow) (ss : List ℕ) (g : ℕ) → (g ≡ f → ⊥) → stateFor g rows (actOn e f rows ss) ≡ stateFor g rows ss
-  acts-on-no-other [] ss g n = refl
-  acts-on-no-other (r ∷ rows) [] g n = refl
-  acts-on-no-other (r ∷ rows) (s ∷ ss) g n = go (acts-on-no-other rows ss g n) (eqb f (r .id)) refl (eqb g (r .id)) refl
+  -- and it is that of a row with the id
+  pub place-row : (k : ℕ) → placeOf f ids ≡ some k → (k < length ids) × (getD ids k 0 ≡ f)
+  unfolding placeOf
+  place-row k e = go (ltb (placeIn f ids) (length ids)) refl
     where
-      go : stateFor g rows (actOn e f rows ss) ≡ stateFor g rows ss → (b : Bool) → eqb f (r .id) ≡ b → (d : Bool) → eqb g (r .id) ≡ d
-          → stateFor g (r ∷ rows) (actOn e f (r ∷ rows) (s ∷ ss)) ≡ stateFor g (r ∷ rows) (s ∷ ss)
-      go ih true q true h = absurd (n (eqb-true g (r .id) h ∙ sym (eqb-true f (r .id) q)))
-      go ih true q false h = simp (q, h)
-      go ih false q true h = simp (q, h)
-      go ih false q false h = simp (q, h) ih
+      go : (b : Bool) → ltb (placeIn f ids) (length ids) ≡ b → (k < length ids) × (getD ids k 0 ≡ f)
+      go true q =
+          let h = ltb-true _ _ q in
+          let j : placeIn f ids ≡ k = Option·some-injective _ k (simp q at e) in
+          rw (← j) (h, stands-there f ids h)
+      go false q = absurd (false≢true (ap isPlace (simp q at e)))
+
+  -- where ids rise, no other row has the id
+  pub place-of-row : Rising 0 ids → (k : ℕ) → k < length ids → getD ids k 0 ≡ f → placeOf f ids ≡ some k
+  unfolding placeOf
+  place-of-row r k h e = rw (place-only f 0 ids r k h e) (simp (lt-ltb k (length ids) h))
+
+-- ---- an event on the row at a place
+
+module _ (next : ℕ → ℕ) (ss : List ℕ) where
+  -- the row is in the state that it goes to from the state that it had
+  pub acts-on-its-row : (k : ℕ) → k < length ss → getD (onward next (some k) ss) k 0 ≡ next (getD ss k 0)
+  acts-on-its-row k h = getD-set-same ss k (next (getD ss k 0)) 0 h
+
+  -- and every other as it was
+  pub acts-on-no-other : (place : Option ℕ) (j : ℕ) → (place ≡ some j → ⊥) → getD (onward next place ss) j 0 ≡ getD ss j 0
+  acts-on-no-other none j h = refl
+  acts-on-no-other (some k) j h = getD-set-other ss k j (next (getD ss k 0)) 0 (λ e. h (ap some (sym e)))
+
+  pub onward-long : (place : Option ℕ) → length (onward next place ss) ≡ length ss
+  onward-long none = refl
+  onward-long (some k) = length-set ss k (next (getD ss k 0))
 
 -- a row that doesn't latch: a fault leaves every state as it was, its own too
-pub non-latching-keeps : (f : ℕ) (rows : List FaultRow) (ss : List ℕ) → rowFor f rows .latching ≡ 0 → actOn fault f rows ss ≡ ss
+pub non-latching-keeps : (rows : List FaultRow) (place : Option ℕ) (ss : List ℕ) → rowFor place rows .latching ≡ 0 → latchedBy rows place ss ≡ ss
 unfolding rowAfter
-non-latching-keeps f [] ss z = refl
-non-latching-keeps f (r ∷ rows) [] z = refl
-non-latching-keeps f (r ∷ rows) (s ∷ ss) z = go (non-latching-keeps f rows ss) (eqb f (r .id)) refl
-  where
-    go : (rowFor f rows .latching ≡ 0 → actOn fault f rows ss ≡ ss) → (b : Bool) → eqb f (r .id) ≡ b → actOn fault f (r ∷ rows) (s ∷ ss) ≡ s ∷ ss
-    go ih true q = simp (q, simp q at z)
-    go ih false q = simp (q, ih (simp q at z))
+non-latching-keeps rows none ss z = refl
+non-latching-keeps rows (some k) ss z = rw z (set-getD ss k 0)

@@ -6,14 +6,14 @@ ghost use mathlib.Core.Path.{_≡_};
 ghost use mathlib.Core.List.{List};
 ghost use Prim.Native.Nat.{ℕ, _+_, _*_, _≤_, _<_};
 ghost use lib.ListN.{length, take, drop};
-ghost use Rattle.dispatch.specs.Dispatch.{commandBytes, over};
+ghost use Rattle.dispatch.specs.Dispatch.{stepRoom, Wrote};
 ghost use Rattle.state.specs.Tables.{configFrom};
 ghost use Rattle.steprules.specs.Moved.{RowsLent, FaultMoves};
 
 // Writes the command of row k, whose `count` argument bytes stand from place 16 k on.
 fn respond(out: &mut [u8], source: u16, id: u16, args: &[u8], k: usize, count: u8) -> u16
-    requires { ⌜ (260 ≤ length (now out)) × (k < 32) × (k * 16 + count ≤ length (now args)) ⌝ }
-    ensures { λ r. ⌜ (r ≡ 5 + length (take count (drop (k * 16) (now (args .entry))))) × (now (out .exit) ≡ over (commandBytes source id (take count (drop (k * 16) (now (args .entry))))) (now (out .entry))) ⌝ }
+    requires { ⌜ (stepRoom ≤ length (now out)) × (k < 32) × (k * 16 + count ≤ length (now args)) ⌝ }
+    ensures { λ r. ⌜ Wrote source id (take count (drop (k * 16) (now (args .entry)))) (now (out .entry)) r (now (out .exit)) ⌝ }
 {
     let from = k * 16;
     let end = from + count as usize;
@@ -37,9 +37,12 @@ pub fn inner_fault<'a>(
     fault: u16,
     out: &mut [u8],
 ) -> Answer
-    requires { ⌜ RowsLent numbers (now routeids) (now dests) (now faultids) (now responses) (now latching) (now argcounts) (now args) × (length (now states) ≡ 32) × (260 ≤ length (now out)) ⌝ }
+    requires { ⌜ RowsLent numbers (now routeids) (now dests) (now faultids) (now responses) (now latching) (now argcounts) (now args)
+        × (length (now states) ≡ 32) × (stepRoom ≤ length (now out)) ⌝ }
     ensures { λ r. ⌜ ((protected : List ℕ)
-        → FaultMoves (configFrom numbers (now (routeids .entry)) (now (dests .entry)) protected (now (faultids .entry)) (now (responses .entry)) (now (latching .entry)) (now (argcounts .entry)) (now (args .entry)))
+        → FaultMoves
+        (configFrom numbers (now (routeids .entry)) (now (dests .entry)) protected (now (faultids .entry))
+        (now (responses .entry)) (now (latching .entry)) (now (argcounts .entry)) (now (args .entry)))
         (now (states .entry)) fault (now (out .entry)) r (now (states .exit)) (now (out .exit))) ⌝ }
 {
     let k = lookup::place(faultids, numbers.nrows, lookup::ROWS, fault);
@@ -56,10 +59,5 @@ pub fn inner_fault<'a>(
     let latches = latching[k];
     let written = respond(out, numbers.fault, id, args, k, count);
     states[k] = faultstates::row_after(latches, s, faultstates::FAULT);
-    Answer {
-        answer: 10,
-        id: id,
-        dest: dests[at],
-        written: written,
-    }
+    types::dispatched(id, dests[at], written)
 }

@@ -6,23 +6,24 @@ use mathlib.Core.List.{List, [], _∷_}
 use Prim.Native.Nat.{ℕ, _≤_}
 use Rattle.state.specs.Keeps.{Each, Rules}
 use Rattle.records.specs.Records.{Record, recordsOf}
-use Rattle.records.specs.Checks.{tablesOfRecords, startsOfRecords}
-use Rattle.records.specs.Outcome.{BodyFits}
+use Rattle.records.specs.Written.{tablesOfRecords, startsOfRecords}
+use Rattle.records.specs.Kinds.{lastOfKinds, kindOf}
+use Rattle.records.specs.RecordOutcome.{Follows}
 
 pub record GoodRecord (r : Record) : Type 0 where
   pub whole : r .whole ≡ true
   pub kind-low : 1 ≤ r .kind
-  pub kind-high : r .kind ≤ 4
-  pub fits : BodyFits (r .kind) (r .body)
+  pub kind-high : r .kind ≤ lastOfKinds
+  pub fits : kindOf (r .kind) .sized (r .body) ≡ true
 
--- kinds never fall, and none is below low
+-- behind a record of the kind last: kinds never fall, and of a single kind there is no second
 abbrev pub Ascending : ℕ → List Record → Type 0
-Ascending low [] = Unit {0}
-Ascending low (r ∷ rs) = (low ≤ r .kind) × Ascending (r .kind) rs
+Ascending last [] = Unit {0}
+Ascending last (r ∷ rs) = Follows (kindOf (r .kind) .single) last (r .kind) × Ascending (r .kind) rs
 
 -- exactly one kind 1, first
 pub data InOrder : List Record → Type 0 where
-  basics-first : (r : Record) (rs : List Record) → r .kind ≡ 1 → Ascending 2 rs → InOrder (r ∷ rs)
+  basics-first : (r : Record) (rs : List Record) → r .kind ≡ 1 → Ascending 1 rs → InOrder (r ∷ rs)
 
 pub record Good (image : List ℕ) : Type 0 where
   pub records-good : Each GoodRecord (recordsOf image)

@@ -6,7 +6,7 @@ use native.Mathlib.Omega.{arith}
 use lib.ListN.{length}
 use borrow.Author.Tests.{lt-leb}
 use Rattle.records.specs.Records.{Record, recordsOf}
-use Rattle.records.specs.Outcome.{AllGood}
+use Rattle.records.specs.RecordOutcome.{AllGood}
 use Rattle.goodimage.specs.Good.{InOrder, basics-first, Good}
 use Rattle.goodimage.specs.GoodLaws.{all-records, all-in-order, all-tables, all-start}
 use Rattle.goodimage.specs.GoodEach.{each-good}

@@ -1,33 +1,118 @@
 -- From each to all: records of which each is good behind those before it are in order, and their tables and start states keep
 -- the rules.
-use mathlib.Core.Path.{_≡_, refl}
+use mathlib.Core.Path.{_≡_, refl, _∙_}
 use mathlib.Core.Logic.{_⊎_, inl, inr}
+use mathlib.Core.Bool.{true, cond}
 use mathlib.Core.List.{List, [], _∷_, _++_, map, map-append, append-nil, append-assoc, Memᴰ·append-left, List·Memᴰ}
-use Prim.Native.Nat.{ℕ, suc, _+_, _≤_, _<_}
+use Prim.Native.Nat.{ℕ, suc, _+_, _≤_}
 use native.Mathlib.Omega.{arith}
 use lib.Dec.{eqb}
 use lib.ListN.{length, length-append, length-map}
-use borrow.Author.Tests.{eqb-true, eqb-false}
-use Rattle.state.specs.Tables.{FaultRow, Tables, routeId, faultId, routed}
-use Rattle.state.specs.Rules.{floorFrom, floor}
-use Rattle.state.specs.Keeps.{Own, RouteOk, ProtectedOk, RowOk, Rising, Each, Rules}
-use Rattle.state.specs.KeepsLaws.{split}
-use Rattle.state.specs.ArrayLaws.{each-map}
-use Rattle.records.specs.Records.{le16, Record}
-use Rattle.records.specs.Checks.{routeIn, protectedIn, rowIn, startIn, tablesOfRecords, startsOfRecords, lastKind}
+use borrow.Author.Tests.{eqb-true}
+use Rattle.state.specs.Tables.{Route, FaultRow, Tables, routeId, faultId, routed}
+use Rattle.state.specs.Rules.{floorFrom}
+use Rattle.state.specs.Keeps.{Own, BasicsOk, RouteOk, ProtectedOk, RowOk, Rising, Each, Rules}
+use Rattle.state.specs.KeepsLaws.{Few, split}
+use Rattle.state.specs.ArrayLaws.{each-map, rules-few}
+use Rattle.records.specs.Records.{Record}
+use Rattle.records.specs.Written.{rowId, routeIn, protectedIn, rowIn, startIn, tablesOfRecords, startsOfRecords, plus}
+use Rattle.records.specs.Kinds.{lastOfKinds, kindOf, idsIn}
+use Rattle.records.specs.KindRules.{basics-says, route-says, protected-says, row-says}
+use Rattle.records.specs.Checks.{lastKind}
+use Rattle.records.specs.RecordLaws.{by-kind, last-snoc, more, starts-more, ids-more, route-ids, protected-ids, fault-ids}
+use Rattle.records.specs.RecordOutcome.{Follows, Order, begins, goes-on, GoodAfter, AllGood}
 use Rattle.goodimage.specs.Good.{GoodRecord, Ascending, InOrder, basics-first}
-use Rattle.records.specs.RecordLaws.{last-snoc, plusRoute, plusProtected, plusRow, plus-1, plus-2, plus-3, plus-4, starts-4, starts-same}
-use Rattle.records.specs.Outcome.{Order, begins, goes-on, GoodAfter, AllGood}
-use Rattle.records.specs.OutcomeLaws.{by-kind}
 
--- ---- a row more at the end of a table
+-- ---- the order of kinds
+
+module _ {before : List Record} {r : Record} (g : GoodAfter before r) where
+  good-record : GoodRecord r
+  good-record =
+      let s = g .rest .shaped in
+      record { whole = g .whole; kind-low = s .kind-low; kind-high = s .kind-high; fits = s .fits }
+
+  first-kind : lastKind before ≡ 0 → r .kind ≡ 1
+  first-kind z = go (g .rest .shaped .order)
+    where
+      go : Order (kindOf (r .kind) .single) (lastKind before) (r .kind) → r .kind ≡ 1
+      go (begins z₁ k) = k
+      go (goes-on h f) = absurd (h z)
+
+  later-kind : (lastKind before ≡ 0 → ⊥) → Follows (kindOf (r .kind) .single) (lastKind before) (r .kind)
+  later-kind h = go (g .rest .shaped .order)
+    where
+      go : Order (kindOf (r .kind) .single) (lastKind before) (r .kind) → Follows (kindOf (r .kind) .single) (lastKind before) (r .kind)
+      go (begins z k) = absurd (h z)
+      go (goes-on z f) = f
+
+  -- only the first record is of kind 1
+  later-not-1 : (lastKind before ≡ 0 → ⊥) → r .kind ≡ 1 → ⊥
+  later-not-1 h k =
+      let f = rw k at (later-kind h) in
+      f .no-second refl (omega (arith, h, f .never-falls))
+
+  next-not-0 : lastKind (before ++ r ∷ []) ≡ 0 → ⊥
+  next-not-0 z = omega (arith, last-snoc 0 before r, g .rest .shaped .kind-low)
+
+pub all-records : (before rs : List Record) → AllGood before rs → Each GoodRecord rs
+all-records before [] a = tt
+all-records before (r ∷ rs) a = (good-record (a .0), all-records (before ++ r ∷ []) rs (a .1))
+
+ascending : (before rs : List Record) → (lastKind before ≡ 0 → ⊥) → AllGood before rs → Ascending (lastKind before) rs
+ascending before [] h a = tt
+ascending before (r ∷ rs) h a =
+    (later-kind (a .0) h, rw (last-snoc 0 before r) at (ascending (before ++ r ∷ []) rs (next-not-0 (a .0)) (a .1)))
+
+-- ---- of each kind: the ids of its rows rise, and there are not too many
+
+pub record Listed (kind : ℕ) (rs : List Record) : Type 0 where
+  pub rise : Rising 0 (idsIn kind rs)
+  pub few : length (idsIn kind rs) ≤ kindOf kind .limit
 
 rising-snoc : (low : ℕ) (xs : List ℕ) (x : ℕ) → Rising low xs → floorFrom low xs ≤ x → Rising low (xs ++ x ∷ [])
 rising-snoc low [] x h l = (l, tt)
 rising-snoc low (y ∷ xs) x h l = (h .0, rising-snoc (suc y) xs x (h .1) l)
 
-pub routes-rise-on : (t : Tables) (b : List ℕ) → Rising 0 (routed t) → floor (routed t) ≤ le16 b 0 → Rising 0 (routed (plusRoute t b))
-routes-rise-on t b h l = rw (map-append routeId (t .routes)) (rising-snoc 0 (routed t) (le16 b 0) h l)
+module _ (kind : ℕ) where
+  none-listed : Listed kind []
+  none-listed =
+      split (Listed kind []) (kindOf kind .single)
+      (λ e. record { rise = rw e tt; few = rw e (omega arith) })
+      (λ e. record { rise = rw e tt; few = rw e (omega arith) })
+
+  listed-more : (before : List Record) (r : Record) → Listed kind before → GoodAfter before r → Listed kind (before ++ r ∷ [])
+  listed-more before r h g =
+      split (Listed kind (before ++ r ∷ [])) (kindOf kind .single)
+      (λ e. record { rise = rw e tt; few = rw e (omega arith) })
+      (λ e. split (Listed kind (before ++ r ∷ [])) (eqb (r .kind) kind)
+      (λ q. let k = eqb-true (r .kind) kind q in
+      let m : idsIn kind (before ++ r ∷ []) ≡ idsIn kind before ++ rowId (r .body) ∷ [] = ids-more kind before r e ∙ rw q in
+      let room = rw k at (g .rest .room) in
+      record {
+        rise = rw m (rising-snoc 0 (idsIn kind before) (rowId (r .body)) (h .rise) (rw k at (g .rest .above)));
+        few = rw m (simp length-append (omega arith));
+      })
+      (λ q. let m : idsIn kind (before ++ r ∷ []) ≡ idsIn kind before = ids-more kind before r e ∙ rw q in
+      record { rise = rw m (h .rise); few = rw m (h .few) }))
+
+  all-listed-on : (before rs : List Record) → Listed kind before → AllGood before rs → Listed kind (before ++ rs)
+  all-listed-on before [] h a = rw (append-nil before) h
+  all-listed-on before (r ∷ rs) h a =
+      rw (← append-assoc before (r ∷ []) rs) (all-listed-on (before ++ r ∷ []) rs (listed-more before r h (a .0)) (a .1))
+
+  pub all-listed : (rs : List Record) → AllGood [] rs → Listed kind rs
+  all-listed rs a = all-listed-on [] rs none-listed a
+
+-- ---- the other rules
+
+-- each row by itself, with the base and the routes
+record RowsKept (base : ℕ) (routes : List Route) (protected : List ℕ) (rows : List FaultRow) : Type 0 where
+  routes-ok : Each (RouteOk base) routes
+  protected-ok : Each (ProtectedOk base (map routeId routes)) protected
+  rows-ok : Each (RowOk (map routeId routes)) rows
+
+abbrev KeptBy : Tables → Type 0
+KeptBy t = BasicsOk (t .ground) (t .fault) (t .base) × RowsKept (t .base) (t .routes) (t .protected) (t .rows)
 
 pub each-snoc : {A : Type 0} (P : A → Type 0) (xs : List A) (x : A) → Each P xs → P x → Each P (xs ++ x ∷ [])
 each-snoc P [] x h p = (p, tt)
@@ -45,136 +130,79 @@ more-row : {ids : List ℕ} (js : List ℕ) (r : FaultRow) → RowOk ids r → R
 more-row js r k =
     record { response-routed = Memᴰ·append-left js (k .response-routed); latching-0-1 = k .latching-0-1; few-args = k .few-args }
 
-module _ {t : Tables} (k : Rules t) (b : List ℕ) where
-  add-route : floor (routed t) ≤ le16 b 0 → length (routed t) < 128 → RouteOk (t .base) (routeIn b) → Rules (plusRoute t b)
-  add-route above room ok =
-      record {
-        basics = k .basics;
-        few-routes = simp length-append (omega (arith, length-map (t .routes) routeId));
-        routes-rise = rw (map-append routeId (t .routes)) (rising-snoc 0 (routed t) (le16 b 0) (k .routes-rise) above);
-        routes-ok = each-snoc (RouteOk (t .base)) (t .routes) (routeIn b) (k .routes-ok) ok;
-        few-protected = k .few-protected;
-        protected-rise = k .protected-rise;
-        protected-ok = rw (map-append routeId (t .routes)) (each-map (more-protected (le16 b 0 ∷ [])) (t .protected) (k .protected-ok));
-        few-rows = k .few-rows;
-        rows-rise = k .rows-rise;
-        rows-ok = rw (map-append routeId (t .routes)) (each-map (more-row (le16 b 0 ∷ [])) (t .rows) (k .rows-ok));
-      }
+-- a record more, by its kind
+module _ (t : Tables) (b : List ℕ) (kept : KeptBy t) where
+  abbrev k : RowsKept (t .base) (t .routes) (t .protected) (t .rows)
+  k = kept .1
 
-  add-protected : floor (t .protected) ≤ le16 b 0 → length (t .protected) < 32 → ProtectedOk (t .base) (routed t) (protectedIn b) → Rules (plusProtected t b)
-  add-protected above room ok =
-      record {
-        basics = k .basics;
-        few-routes = k .few-routes;
-        routes-rise = k .routes-rise;
-        routes-ok = k .routes-ok;
-        few-protected = simp length-append (omega arith);
-        protected-rise = rising-snoc 0 (t .protected) (le16 b 0) (k .protected-rise) above;
-        protected-ok = each-snoc (ProtectedOk (t .base) (routed t)) (t .protected) (protectedIn b) (k .protected-ok) ok;
-        few-rows = k .few-rows;
-        rows-rise = k .rows-rise;
-        rows-ok = k .rows-ok;
-      }
+  route-more : RouteOk (t .base) (routeIn b) → KeptBy (plus t 2 b)
+  route-more ok =
+      let more = map-append routeId (t .routes) in (
+        kept .0,
+        record {
+          routes-ok = each-snoc (RouteOk (t .base)) (t .routes) (routeIn b) (k .routes-ok) ok;
+          protected-ok = rw more (each-map (more-protected (rowId b ∷ [])) (t .protected) (k .protected-ok));
+          rows-ok = rw more (each-map (more-row (rowId b ∷ [])) (t .rows) (k .rows-ok));
+        },
+      )
 
-  add-row : floor (map faultId (t .rows)) ≤ le16 b 0 → length (map faultId (t .rows)) < 32 → RowOk (routed t) (rowIn b) → Rules (plusRow t b)
-  add-row above room ok =
-      record {
-        basics = k .basics;
-        few-routes = k .few-routes;
-        routes-rise = k .routes-rise;
-        routes-ok = k .routes-ok;
-        few-protected = k .few-protected;
-        protected-rise = k .protected-rise;
-        protected-ok = k .protected-ok;
-        few-rows = simp length-append (omega (arith, length-map (t .rows) faultId));
-        rows-rise = rw (map-append faultId (t .rows)) (rising-snoc 0 (map faultId (t .rows)) (le16 b 0) (k .rows-rise) above);
-        rows-ok = each-snoc (RowOk (routed t)) (t .rows) (rowIn b) (k .rows-ok) ok;
-      }
+  protected-more : ProtectedOk (t .base) (routed t) (protectedIn b) → KeptBy (plus t 3 b)
+  protected-more ok = (
+    kept .0,
+    record {
+      routes-ok = k .routes-ok;
+      protected-ok = each-snoc (ProtectedOk (t .base) (routed t)) (t .protected) (protectedIn b) (k .protected-ok) ok;
+      rows-ok = k .rows-ok;
+    },
+  )
 
--- ---- from each record to all
+  row-more : RowOk (routed t) (rowIn b) → KeptBy (plus t 4 b)
+  row-more ok = (
+    kept .0,
+    record {
+      routes-ok = k .routes-ok;
+      protected-ok = k .protected-ok;
+      rows-ok = each-snoc (RowOk (routed t)) (t .rows) (rowIn b) (k .rows-ok) ok;
+    },
+  )
 
-module _ {before : List Record} {r : Record} (g : GoodAfter before r) where
-  good-record : GoodRecord r
-  good-record =
-      let s = g .rest .shaped in
-      record { whole = g .whole; kind-low = s .kind-low; kind-high = s .kind-high; fits = s .fits }
+  -- that such a record keeps the rules too
+  abbrev Keeps : ℕ → Type 0
+  Keeps kind = (kind ≡ 1 → ⊥) → kindOf kind .sized b ≡ true → kindOf kind .rule t b ≡ true → KeptBy (plus t kind b)
 
-  first-kind : lastKind before ≡ 0 → r .kind ≡ 1
-  first-kind z = go (g .rest .shaped .order)
-    where
-      go : Order (lastKind before) (r .kind) → r .kind ≡ 1
-      go (begins z₁ k) = k
-      go (goes-on h k l) = absurd (h z)
+  kept-more : (kind : ℕ) → 1 ≤ kind → kind ≤ lastOfKinds → Keeps kind
+  kept-more =
+      by-kind Keeps
+      (λ n. absurd (n refl), (λ n f e. route-more (route-says t b e), (λ n f e. protected-more (protected-says t b e), (λ n f e. row-more (row-says t b f e .0), tt))))
 
-  later-kind : (lastKind before ≡ 0 → ⊥) → (2 ≤ r .kind) × (lastKind before ≤ r .kind)
-  later-kind h = go (g .rest .shaped .order)
-    where
-      go : Order (lastKind before) (r .kind) → (2 ≤ r .kind) × (lastKind before ≤ r .kind)
-      go (begins z k) = absurd (h z)
-      go (goes-on z k l) = (omega (arith, g .rest .shaped .kind-low), l)
-
-pub all-records : (before rs : List Record) → AllGood before rs → Each GoodRecord rs
-all-records before [] a = tt
-all-records before (r ∷ rs) a = (good-record (a .0), all-records (before ++ r ∷ []) rs (a .1))
-
-climb : (before rs : List Record) → 2 ≤ lastKind before → AllGood before rs → Ascending (lastKind before) rs
-climb before [] h a = tt
-climb before (r ∷ rs) h a =
-    let k = later-kind (a .0) (λ z. omega arith) in
-    let e = last-snoc 0 before r in
-    (k .1, rw e at (climb (before ++ r ∷ []) rs (rw e (k .0)) (a .1)))
-
-ascending : (before rs : List Record) → (lastKind before ≡ 0 → ⊥) → AllGood before rs → Ascending 2 rs
-ascending before [] h a = tt
-ascending before (r ∷ rs) h a =
-    let k = later-kind (a .0) h in
-    let e = last-snoc 0 before r in
-    (k .0, rw e at (climb (before ++ r ∷ []) rs (rw e (k .0)) (a .1)))
-
-first-rules : (r : Record) → GoodAfter [] r → Rules (tablesOfRecords (r ∷ []))
-unfolding tablesOfRecords
-first-rules r g =
-    let k = first-kind g refl in
-    rw (plus-1 [] r k)
-    (record {
-      basics = g .rest .kept .basics-ok k;
-      few-routes = omega arith;
-      routes-rise = tt;
-      routes-ok = tt;
-      few-protected = omega arith;
-      protected-rise = tt;
-      protected-ok = tt;
-      few-rows = omega arith;
-      rows-rise = tt;
-      rows-ok = tt;
-    })
-
-next-rules : (before : List Record) (r : Record) → (lastKind before ≡ 0 → ⊥) → Rules (tablesOfRecords before) → GoodAfter before r
-    → Rules (tablesOfRecords (before ++ r ∷ []))
-next-rules before r h rules g =
-    let f = g .rest in
-    let b = r .body in
-    by-kind (λ k. r .kind ≡ k → Rules (tablesOfRecords (before ++ r ∷ []))) (λ k. absurd (omega (arith, later-kind g h .0)))
-    (λ k. rw (plus-2 before r k) (add-route rules b (rw k at (f .above)) (rw k at (f .room)) (f .kept .route-ok k)))
-    (λ k. rw (plus-3 before r k) (add-protected rules b (rw k at (f .above)) (rw k at (f .room)) (f .kept .protected-ok k)))
-    (λ k. rw (plus-4 before r k) (add-row rules b (rw k at (f .above)) (rw k at (f .room)) (f .kept .row-ok k)))
-    (r .kind) (f .shaped .kind-low) (f .shaped .kind-high) refl
-
-all-rules : (before rs : List Record) → (lastKind before ≡ 0 → ⊥) → Rules (tablesOfRecords before) → AllGood before rs → Rules (tablesOfRecords (before ++ rs))
-all-rules before [] h rules a = rw (append-nil before) rules
-all-rules before (r ∷ rs) h rules a =
+all-kept : (before rs : List Record) → (lastKind before ≡ 0 → ⊥) → KeptBy (tablesOfRecords before) → AllGood before rs → KeptBy (tablesOfRecords (before ++ rs))
+all-kept before [] h k a = rw (append-nil before) k
+all-kept before (r ∷ rs) h k a =
+    let f = a .0 .rest in
+    let s = f .shaped in
     rw (← append-assoc before (r ∷ []) rs)
-    (all-rules (before ++ r ∷ []) rs (rw (last-snoc 0 before r) (λ z. omega (arith, a .0 .rest .shaped .kind-low))) (next-rules before r h rules (a .0)) (a .1))
+    (all-kept (before ++ r ∷ []) rs (next-not-0 (a .0))
+    (rw (more before r) (kept-more (tablesOfRecords before) (r .body) k (r .kind) (s .kind-low) (s .kind-high) (later-not-1 (a .0) h) (s .fits) (f .kept)))
+    (a .1))
+
+-- the first record writes the basics
+first-kept : (r : Record) → GoodAfter [] r → KeptBy (tablesOfRecords (r ∷ []))
+unfolding tablesOfRecords
+first-kept r g =
+    let k = first-kind g refl in
+    simp k (basics-says (tablesOfRecords []) (r .body) (rw k at (g .rest .kept)), record { routes-ok = tt; protected-ok = tt; rows-ok = tt })
 
 all-starts : (before rs : List Record) → Each (λ s. s ≤ 1) (startsOfRecords before) → AllGood before rs → Each (λ s. s ≤ 1) (startsOfRecords (before ++ rs))
 all-starts before [] s a = rw (append-nil before) s
 all-starts before (r ∷ rs) s a =
     rw (← append-assoc before (r ∷ []) rs)
     (all-starts (before ++ r ∷ []) rs
-    (split (Each (λ s. s ≤ 1) (startsOfRecords (before ++ r ∷ []))) (eqb (r .kind) 4)
-    (λ e. let k = eqb-true _ _ e in
-    rw (starts-4 before r k) (each-snoc (λ s. s ≤ 1) (startsOfRecords before) (startIn (r .body)) s (a .0 .rest .kept .start-0-1 k)))
-    (λ e. rw (starts-same before r (eqb-false _ _ e)) s))
+    (rw (starts-more before r)
+    (split (Each (λ s. s ≤ 1) (cond (eqb (r .kind) 4) (startsOfRecords before ++ startIn (r .body) ∷ []) (startsOfRecords before))) (eqb (r .kind) 4)
+    (λ e. let k = eqb-true (r .kind) 4 e in
+    let f = a .0 .rest in
+    rw e (each-snoc (λ s. s ≤ 1) (startsOfRecords before) (startIn (r .body)) s (row-says (tablesOfRecords before) (r .body) (rw k at (f .shaped .fits)) (rw k at (f .kept)) .1)))
+    (λ e. rw e s)))
     (a .1))
 
 -- ---- all records of an image
@@ -183,13 +211,40 @@ pub all-in-order : (rs : List Record) → (rs ≡ [] → ⊥) → AllGood [] rs 
 all-in-order [] h a = absurd (h refl)
 all-in-order (r ∷ rs) h a =
     let k = first-kind (a .0) refl in
-    basics-first r rs k (ascending (r ∷ []) rs (λ z. omega arith) (a .1))
+    basics-first r rs k (rw k at (ascending (r ∷ []) rs (λ z. omega arith) (a .1)))
 
 pub all-tables : (rs : List Record) → (rs ≡ [] → ⊥) → AllGood [] rs → Rules (tablesOfRecords rs)
 all-tables [] h a = absurd (h refl)
 all-tables (r ∷ rs) h a =
     let k = first-kind (a .0) refl in
-    all-rules (r ∷ []) rs (λ z. omega arith) (first-rules r (a .0)) (a .1)
+    let kept = all-kept (r ∷ []) rs (λ z. omega arith) (first-kept r (a .0)) (a .1) in
+    let t = tablesOfRecords (r ∷ rs) in
+    let routes = all-listed 2 (r ∷ rs) a in
+    let protected = all-listed 3 (r ∷ rs) a in
+    let faults = all-listed 4 (r ∷ rs) a in
+    record {
+      basics = kept .0;
+      few-routes = rw (route-ids (r ∷ rs), length-map (t .routes) routeId) at (routes .few);
+      routes-rise = rw (route-ids (r ∷ rs)) at (routes .rise);
+      routes-ok = kept .1 .routes-ok;
+      few-protected = rw (protected-ids (r ∷ rs)) at (protected .few);
+      protected-rise = rw (protected-ids (r ∷ rs)) at (protected .rise);
+      protected-ok = kept .1 .protected-ok;
+      few-rows = rw (fault-ids (r ∷ rs), length-map (t .rows) faultId) at (faults .few);
+      rows-rise = rw (fault-ids (r ∷ rs)) at (faults .rise);
+      rows-ok = kept .1 .rows-ok;
+    }
+
+-- so the tables fit their arrays
+pub all-few : (rs : List Record) → AllGood [] rs → Few (tablesOfRecords rs)
+unfolding tablesOfRecords
+all-few [] a = record { few-routes = omega arith; few-protected = omega arith; few-rows = omega arith; few-args = tt }
+all-few (r ∷ rs) a = rules-few (all-tables (r ∷ rs) (λ e. let z : _≡_ {A = ℕ} 0 1 = cc e in omega arith) a)
+
+-- and one more may follow
+pub all-good-more : (before rs : List Record) (r : Record) → AllGood before rs → GoodAfter (before ++ rs) r → AllGood before (rs ++ r ∷ [])
+all-good-more before [] r a g = (rw (append-nil before) at g, tt)
+all-good-more before (q ∷ rs) r a g = (a .0, all-good-more (before ++ q ∷ []) rs r (a .1) (rw (append-assoc before (q ∷ []) rs) g))
 
 pub all-start : (rs : List Record) → AllGood [] rs → Each (λ s. s ≤ 1) (startsOfRecords rs)
 unfolding startsOfRecords

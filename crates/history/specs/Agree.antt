@@ -7,22 +7,24 @@ use mathlib.Core.Option.{Option, none, some}
 use mathlib.Core.List.{List, [], _∷_, map}
 use Prim.Native.Nat.{ℕ, _<_}
 use lib.Dec.{eqb, ltb}
-use lib.ListN.{length}
+use native.Mathlib.Nat.{zero-add}
+use lib.ListN.{length, length-map, List·getD-map}
 use borrow.Author.Tests.{eq-eqb, ne-eqb, lt-ltb, eqb-true, ltb-true}
 use Rattle.packetrules.specs.Layout.{commandId}
 use Rattle.packetrules.specs.Judge.{argumentsOf}
 use Rattle.state.specs.declared.types.Run.{Run}
-use Rattle.state.specs.Tables.{faultId, routed, tablesOf}
+use Rattle.state.specs.Tables.{routed, listed, tablesOf}
+use Rattle.state.specs.ArrayLaws.{listed-back}
 use Rattle.state.specs.Rules.{own, member}
-use Rattle.state.specs.Keeps.{Each, ProtectedOk, Rising}
+use Rattle.state.specs.Keeps.{Each, ProtectedOk}
 use Rattle.state.specs.KeepsLaws.{both}
-use Rattle.image.specs.Records.{Record, recordsOf}
-use Rattle.image.specs.Image.{ofKind, rowIn, tablesOfRecords, startsOfRecords, loadOf}
+use Rattle.records.specs.Records.{Record, recordsOf}
+use Rattle.image.specs.Image.{ofKind, startsOfRecords, loadOf}
 use Rattle.image.specs.Theorems.{loads-good, loaded-tables, loaded-run}
-use Rattle.history.specs.Plain.{Event, packet, wanted, namesFault, faultNamed, selects, nearest, ticksSince, isArm, timeout, lasts, armed, accepted, packetAnswer, packetReply, Reply, Row, rowOf, tables, rows, stateOf, reply, replies, latestFirst}
+use Rattle.history.specs.Plain.{Event, packet, wanted, namesFault, faultNamed, selects, nearest, ticksSince, isArm, timeout, lasts, armed, accepted, packetAnswer, packetReply, Reply, Row, rowOf, noRow, anyRow, tables, rows, rowHere, meantBy, stateOf, reply, replies, latestFirst}
 use Rattle.history.specs.Path.{run, after}
 use Rattle.history.specs.Known.{known, knownCounts}
-use Rattle.history.specs.RowsLaws.{rising-distinct, map-then}
+use Rattle.history.specs.RowsLaws.{map-then, row-named}
 use Rattle.history.specs.KnownLaws.{Sound, step-known}
 
 -- ---- from any history on
@@ -44,25 +46,30 @@ arm-free : (base : ℕ) (routed ids : List ℕ) → Each (ProtectedOk base route
 arm-free base routed [] h = refl
 arm-free base routed (x ∷ ids) h = simp (ne-eqb base x (λ e. h .0 .not-arm (sym e)), arm-free base routed ids (h .1))
 
-rows-rise : (image : List Record) → Rising 0 (map faultId (tables image .rows)) → Rising 0 (map (λ r. r .row .id) (rows image))
-unfolding tablesOfRecords
-rows-rise image h = rw (map-then (λ (r : Row). r .row .id) rowOf (ofKind 4 image)) (rw (map-then faultId rowIn (ofKind 4 image)) at h)
-
 module _ (image : List ℕ) (z : loadOf image .answer ≡ 0) where
   abbrev records : List Record
   records = recordsOf image
 
   pub sound : Sound records
   sound =
-      let r = loads-good image z .rules in
-      record {
-        free = arm-free (tables records .base) _ (tables records .protected) (r .protected-ok);
-        distinct = rising-distinct 0 (rows records) (rows-rise records (r .rows-rise));
-      }
+      record { free = arm-free (tables records .base) _ (tables records .protected) (loads-good image z .rules .protected-ok) }
+
+  abbrev start : Row → ℕ
+  start r = r .start
+
+  starts-are : listed (stateOf records []) 0 (length (rows records)) ≡ startsOfRecords records
+  unfolding startsOfRecords
+  starts-are =
+      ap (listed (stateOf records []) 0) (sym (length-map (rows records) start))
+      ∙ listed-back (stateOf records []) 0 0 (map start (rows records)) (λ i l. rw (zero-add i) (sym (List·getD-map start (rows records) i noRow)))
+      ∙ map-then start rowOf (ofKind 4 records)
 
   pub fresh : loadOf image .run ≡ known records []
-  unfolding startsOfRecords
-  fresh = loaded-run image z ∙ rw (map-then (stateOf records []) rowOf (ofKind 4 records))
+  fresh = loaded-run image z ∙ rw starts-are
+
+  -- a fault id means the one row that has it
+  pub meant-row : (f k : ℕ) → k < length (rows records) → rowHere records k .row .id ≡ f → meantBy records f ≡ some k
+  meant-row = row-named records (loads-good image z .rules .rows-rise)
 
   -- the running path and the plain reading agree on every answer and every output byte
   pub agree : (es : List Event) → run (tablesOf (loadOf image .config)) (loadOf image .run) es ≡ replies records [] es
@@ -77,7 +84,7 @@ module _ (image : List ℕ) (z : loadOf image .answer ≡ 0) where
 -- a protected command from an accepted packet is let past (gets any answer but 30) exactly when the nearest earlier accepted
 -- packet was a well-formed arm command, and its timeout was zero or fewer ticks than that timeout came between
 pub data LetPast (image : List Record) (h : List Event) : Type 0 where
-  armed-by : (p : List ℕ) → nearest h ≡ some p → isArm image p ≡ true → (timeout image p ≡ 0) ⊎ (ticksSince h < timeout image p) → LetPast image h
+  armed-by : (p : List ℕ) → nearest image h ≡ some p → isArm image p ≡ true → (timeout image p ≡ 0) ⊎ (ticksSince image h < timeout image p) → LetPast image h
 
 module _ (image : List Record) (h : List Event) where
   pub past-armed : LetPast image h → armed image h ≡ true
@@ -85,19 +92,19 @@ module _ (image : List Record) (h : List Event) where
   past-armed (armed-by p n a (inr l)) = rw n (simp (a, lt-ltb _ _ l) (or-true (eqb (timeout image p) 0)))
 
   pub armed-past : armed image h ≡ true → LetPast image h
-  armed-past e = go (nearest h) refl e
+  armed-past e = go (nearest image h) refl e
     where
-      go : (o : Option (List ℕ)) → nearest h ≡ o → lasts image o (ticksSince h) ≡ true → LetPast image h
+      go : (o : Option (List ℕ)) → nearest image h ≡ o → lasts image o (ticksSince image h) ≡ true → LetPast image h
       go none n q = absurd (false≢true q)
       go (some p) n q =
-          let b = both (isArm image p) (eqb (timeout image p) 0 || ltb (ticksSince h) (timeout image p)) q in
+          let b = both (isArm image p) (eqb (timeout image p) 0 || ltb (ticksSince image h) (timeout image p)) q in
           armed-by p n (b .0) (either (eqb (timeout image p) 0) refl (b .1))
         where
-          either : (z : Bool) → eqb (timeout image p) 0 ≡ z → (eqb (timeout image p) 0 || ltb (ticksSince h) (timeout image p)) ≡ true → (timeout image p ≡ 0) ⊎ (ticksSince h < timeout image p)
+          either : (z : Bool) → eqb (timeout image p) 0 ≡ z → (eqb (timeout image p) 0 || ltb (ticksSince image h) (timeout image p)) ≡ true → (timeout image p ≡ 0) ⊎ (ticksSince image h < timeout image p)
           either true e q = inl (eqb-true _ _ e)
           either false e q = inr (ltb-true _ _ (simp e at q))
 
-  module _ (p : List ℕ) (a : accepted p ≡ true) (m : member (commandId p) (tables image .protected) ≡ true) where
+  module _ (p : List ℕ) (a : accepted image p ≡ true) (m : member (commandId p) (tables image .protected) ≡ true) where
     answer-of : (n : ℕ) → packetReply image p n .answer ≡ n
     answer-of n = go (eqb n 10) refl
       where
@@ -119,7 +126,7 @@ module _ (image : List Record) (h : List Event) where
         let n : packetAnswer image h p ≡ 30 = sym (answer-of (packetAnswer image h p)) ∙ (rw a at e) in
         let k = selects image p in
         let args = argumentsOf p in
-        let unknown = namesFault k && not (member (faultNamed args) (map faultId (tables image .rows))) in
+        let unknown = namesFault k && not (anyRow (meantBy image (faultNamed args))) in
         let z = no-30 (own (tables image .base) (commandId p)) (eqb (length args) (wanted k)) unknown (eqb k 0) (member (commandId p) (routed (tables image))) in
         false≢true (sym z ∙ eq-eqb _ 30 (simp (m, past-armed l) at n))
 

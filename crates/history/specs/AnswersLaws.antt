@@ -5,16 +5,16 @@ use mathlib.Core.Option.{Option, none, some}
 use mathlib.Core.List.{List, map}
 use Prim.Native.Nat.{ℕ, zero, suc, _-_}
 use native.Mathlib.Omega.{arith}
-use lib.Dec.{eqb, ltb, eqb·suc-zero}
+use lib.Dec.{eqb, eqb·suc-zero}
 use lib.ListN.{length}
-use borrow.Author.Tests.{lt-ltb, ne-eqb}
+use borrow.Author.Tests.{ne-eqb}
 use Rattle.packetrules.specs.Layout.{commandId}
 use Rattle.wire.specs.Check.{check}
 use Rattle.packetrules.specs.Judge.{argumentsOf}
 use Rattle.state.specs.Tables.{Tables, faultId, routed}
 use Rattle.state.specs.Rules.{member}
 use Rattle.state.specs.Rules as rules
-use Rattle.image.specs.Records.{Record}
+use Rattle.records.specs.Records.{Record}
 use Rattle.dispatch.specs.Dispatch.{destOf}
 use Rattle.answers.specs.declared.own.Own.{Own}
 use Rattle.answers.specs.declared.own.Own.the-variants.{Arm, ResetCounters, NoOp, NoOpWithArgument, Enable, Disable, Clear, ClearAll}
@@ -23,7 +23,8 @@ use Rattle.state.specs.KeepsLaws.{both}
 use Rattle.answers.specs.OwnLaws as own
 use Rattle.answers.specs.Answers.{blocked, routeAnswer, selectedAnswer, answerFor, answerTo}
 use Rattle.answers.specs.Answers as steps
-use Rattle.history.specs.Plain.{Event, wanted, namesFault, faultNamed, tables, selects, isArm, armed, stopped, ownAnswer, packetAnswer}
+use Rattle.history.specs.Plain.{Event, wanted, namesFault, faultNamed, anyRow, tables, meantBy, selects, isArm, armed, stopped, ownAnswer, packetAnswer}
+use Rattle.history.specs.RowsLaws.{meant-is, any-is}
 use Rattle.state.specs.Tables.{Route}
 use Rattle.history.specs.Plain.{destination}
 
@@ -91,7 +92,9 @@ module _ (image : List Record) where
 
   own-is : (k : Own) (args : List ℕ) → ownAnswer image (ruleOf k .number) args ≡ steps.ownAnswer (map faultId (t .rows)) k args
   unfolding steps.ownAnswer
-  own-is k args = rw (wanted-is k, names-is k, done-is k) (go (eqb (length args) (ruleOf k .wanted)) (ruleOf k .onRow) (member (faultNamed args) (map faultId (t .rows))) (ruleOf k .done))
+  own-is k args =
+      rw (wanted-is k, names-is k, done-is k, meant-is image (faultNamed args), any-is (meantBy image (faultNamed args)))
+      (go (eqb (length args) (ruleOf k .wanted)) (ruleOf k .onRow) (anyRow (meantBy image (faultNamed args))) (ruleOf k .done))
     where
       go : (a b m : Bool) (d : ℕ) → cond a (cond (b && not m) 32 d) 31 ≡ check a 31 (check (not b || m) 32 d)
       go true true true d = refl
@@ -131,7 +134,7 @@ module _ (image : List Record) where
       go : (b : Bool) → eqb (cond b 11 31) 11 ≡ b
       go true = refl
       go false = refl
-  arm-own (suc k) args = simp (eqb·suc-zero k) (go (eqb (length args) (wanted (suc k))) (namesFault (suc k) && not (member (faultNamed args) (map faultId (t .rows)))))
+  arm-own (suc k) args = simp (eqb·suc-zero k) (go (eqb (length args) (wanted (suc k))) (namesFault (suc k) && not (anyRow (meantBy image (faultNamed args)))))
     where
       go : (a b : Bool) → eqb (cond a (cond b 32 12) 31) 11 ≡ false
       go true true = refl

@@ -8,7 +8,8 @@ use Prim.Native.Nat.{ℕ, _≤_}
 use borrow.Author.Tests.{le-leb}
 use Rattle.packetrules.specs.Layout.{commandId}
 use Rattle.state.specs.Rules.{member}
-use Rattle.image.specs.Records.{Record, recordsOf}
+use Rattle.dispatch.specs.Dispatch.{stepRoom}
+use Rattle.records.specs.Records.{Record, recordsOf}
 use Rattle.image.specs.Image.{loadOf}
 use Rattle.history.specs.Plain.{Event, packet, Reply, accepted, armed, tables, reply}
 use Rattle.history.specs.Agree.{LetPast, past-armed, armed-past, let-past, not-past}
@@ -21,7 +22,7 @@ pub record PastExactly (image : List Record) (h : List Event) (n : ℕ) : Type 0
   pub else-30 : (LetPast image h → ⊥) → n ≡ 30
 
 -- of the plain reply
-pub plain-arm-rule : (image : List Record) (h : List Event) (p : List ℕ) → accepted p ≡ true → member (commandId p) (tables image .protected) ≡ true → PastExactly image h (reply image h (packet p) .answer)
+pub plain-arm-rule : (image : List Record) (h : List Event) (p : List ℕ) → accepted image p ≡ true → member (commandId p) (tables image .protected) ≡ true → PastExactly image h (reply image h (packet p) .answer)
 plain-arm-rule image h p a m = record { past = let-past image h p a m; only-then = only (armed image h) refl; else-30 = not-past image h p a m }
   where
     only : (b : Bool) → armed image h ≡ b → (reply image h (packet p) .answer ≡ 30 → ⊥) → LetPast image h
@@ -32,9 +33,9 @@ plain-arm-rule image h p a m = record { past = let-past image h p a m; only-then
 pub arm-rule :
     (image : List ℕ) → loadOf image .answer ≡ 0
     → (xs : List Call) → CallBytes xs
-    → (p : List ℕ) → accepted p ≡ true → member (commandId p) (tables (recordsOf image) .protected) ≡ true
-    → (room : ℕ) → 260 ≤ room
+    → (p : List ℕ) → accepted (recordsOf image) p ≡ true → member (commandId p) (tables (recordsOf image) .protected) ≡ true
+    → (room : ℕ) → stepRoom ≤ room
     → PastExactly (recordsOf image) (heard [] xs) (stepOf (loadOf image .config) (afterCalls (loadOf image .config) (loadOf image .run) xs) (packet p) room .answer .answer)
 arm-rule image z xs b p a m room l =
     let e = ap (λ (r : Reply). r .answer) (call-behind image z xs b (record { event = packet p; room = room })) in
-    rw (rw (le-leb 260 room l) at e) (plain-arm-rule (recordsOf image) (heard [] xs) p a m)
+    rw (rw (le-leb stepRoom room l) at e) (plain-arm-rule (recordsOf image) (heard [] xs) p a m)

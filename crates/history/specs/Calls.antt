@@ -11,15 +11,16 @@ use Rattle.state.specs.Tables.{Tables, tablesOf}
 use Rattle.state.specs.Test.{keepsRules}
 use Rattle.state.specs.Keeps.{Keeps}
 use Rattle.state.specs.KeepsLaws.{kept, keeps}
+use Rattle.dispatch.specs.Dispatch.{stepRoom}
 use Rattle.steprules.specs.declared.types.Stepped.{Stepped}
-use Rattle.steprules.specs.Bare.{unchanged}
+use Rattle.steprules.specs.Makers.{unchanged}
 use Rattle.steprules.specs.Step.{packetStepOf, tickStepOf, faultStepOf}
 use Rattle.steprules.specs.Demand1.{packet-20-broken, tick-20-broken, fault-20-broken}
 use Rattle.steprules.specs.RulesKept.{Bytes, packet-keeps, tick-keeps, fault-keeps}
-use Rattle.image.specs.Records.{Record, recordsOf}
+use Rattle.records.specs.Records.{Record, recordsOf}
 use Rattle.image.specs.Image.{loadOf}
 use Rattle.image.specs.Theorems.{loaded-tables, loaded-keeps}
-use Rattle.history.specs.Plain.{Event, packet, tick, fault, Reply, bare, reply}
+use Rattle.history.specs.Plain.{Event, packet, tick, fault, Reply, bareReply, reply}
 use Rattle.history.specs.Path.{step, replyOf}
 use Rattle.history.specs.Known.{known, knownCounts}
 use Rattle.history.specs.KnownLaws.{step-known}
@@ -34,9 +35,9 @@ pub record Call : Type 0 where
 
 -- a tick writes nothing and asks for no room
 abbrev pub roomy : Event → ℕ → Bool
-roomy (packet p) room = leb 260 room
+roomy (packet p) room = leb stepRoom room
 roomy tick room = true
-roomy (fault f) room = leb 260 room
+roomy (fault f) room = leb stepRoom room
 
 -- the public step
 abbrev pub stepOf : Config → Run → Event → ℕ → Stepped
@@ -54,11 +55,11 @@ calls c s (x ∷ xs) =
 abbrev pub callReplies : List Record → List Event → List Call → List Reply
 callReplies image h [] = []
 callReplies image h (x ∷ xs) =
-    cond (roomy (x .event) (x .room)) (reply image h (x .event) ∷ callReplies image (x .event ∷ h) xs) (bare 21 ∷ callReplies image h xs)
+    cond (roomy (x .event) (x .room)) (reply image h (x .event) ∷ callReplies image (x .event ∷ h) xs) (bareReply 21 ∷ callReplies image h xs)
 
 -- the plain reply to one call behind h
 abbrev pub callReply : List Record → List Event → Call → Reply
-callReply image h x = cond (roomy (x .event) (x .room)) (reply image h (x .event)) (bare 21)
+callReply image h x = cond (roomy (x .event) (x .room)) (reply image h (x .event)) (bareReply 21)
 
 -- the run that the calls leave
 abbrev pub afterCalls : Config → Run → List Call → Run
@@ -101,7 +102,7 @@ step-keeps k (packet p) b = packet-keeps k p b
 step-keeps k tick b = tick-keeps k
 step-keeps k (fault f) b = fault-keeps k f
 
-silent : (t : Tables) (e : Event) (run : Run) → replyOf t e (unchanged run 21) ≡ bare 21
+silent : (t : Tables) (e : Event) (run : Run) → replyOf t e (unchanged run 21) ≡ bareReply 21
 silent t (packet p) run = refl
 silent t tick run = refl
 silent t (fault f) run = refl
@@ -131,7 +132,7 @@ module _ (image : List ℕ) (z : loadOf image .answer ≡ 0) where
 
       go : (r : Bool) → roomy (x .event) (x .room) ≡ r → Agrees h xs → (keepsRules config (known records (x .event ∷ h)) ≡ true → Agrees (x .event ∷ h) xs) → Agrees h (x ∷ xs)
       go false l same next =
-          rw (l, cramped config (known records h) (x .room) k e l, silent (tablesOf config) e (known records h)) (ap (λ (rs : List Reply). bare 21 ∷ rs) (same .0), same .1, same .2)
+          rw (l, cramped config (known records h) (x .room) k e l, silent (tablesOf config) e (known records h)) (ap (λ (rs : List Reply). bareReply 21 ∷ rs) (same .0), same .1, same .2)
       go true l same next =
           let s = step-known records (sound image z) h e in
           let n : keepsRules config (step (tablesOf config) (known records h) e .run) ≡ true = kept _ _ (step-keeps (keeps _ _ k) e (b .0)) in

@@ -1,13 +1,15 @@
 -- The run that the events of a history leave, written down as an equation: nothing else links the plain reading to the
 -- running path.
 use mathlib.Core.Bool.{cond}
-use mathlib.Core.List.{List, map}
+use mathlib.Core.List.{List}
 use mathlib.Core.Option.{Option, none, some}
 use Prim.Native.Nat.{ℕ, _-_, _%_}
+use lib.ListN.{length}
 use Rattle.state.specs.declared.types.Run.{Run}
 use Rattle.state.specs.declared.types.Counts.{Counts}
-use Rattle.state.specs.Tables.{padded}
-use Rattle.image.specs.Records.{Record}
+use Rattle.state.specs.Tables.{runFrom}
+use Rattle.records.specs.Records.{Record}
+use Rattle.history.specs.RowsLaws.{statesFor}
 use Rattle.history.specs.Plain.{Event, nearest, ticksSince, isArm, timeout, armed, rows, stateOf, count, movesA, movesR, movesD, movesP, movesU, movesI, movesF}
 
 module _ (image : List Record) where
@@ -30,8 +32,6 @@ module _ (image : List Record) where
 
   abbrev pub known : List Event → Run
   known h =
-      record {
-        arm = record { armed = armed image h; ticks = left (nearest h) (ticksSince h) };
-        counts = knownCounts h;
-        states = padded 32 (map (stateOf image h) (rows image));
-      }
+      runFrom (record { armed = armed image h; ticks = left (nearest image h) (ticksSince image h) })
+      (knownCounts h)
+      (statesFor (stateOf image h) (length (rows image)))

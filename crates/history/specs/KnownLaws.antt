@@ -2,41 +2,40 @@
 -- its reply is the plain reading's.
 use mathlib.Core.Path.{_≡_, refl, sym, ap, _∙_}
 use mathlib.Core.Bool.{Bool, true, false, cond, not, _&&_, _||_}
-use mathlib.Core.List.{List, [], _∷_, _++_, map}
+use mathlib.Core.List.{List, _∷_, map}
 use mathlib.Core.Option.{Option, none, some}
 use mathlib.Core.Logic.{_⊎_, inl, inr}
 use Prim.Native.Nat.{ℕ, zero, suc, _+_, _-_, _%_, _<_, _≤_}
 use native.Mathlib.Nat.{mod-add-mod, sub-zero, zero-sub}
 use native.Mathlib.Omega.{arith}
 use lib.Dec.{eqb, ltb, lit<}
-use lib.ListN.{length, replicate, length-map}
+use lib.ListN.{length}
 use borrow.Author.Tests.{lt-ltb, le-ltb, ne-eqb, eqb-true, eqb-false}
 use Rattle.packetrules.specs.Layout.{commandId}
 use Rattle.wire.specs.Check.{check}
-use Rattle.packetrules.specs.Judge.{refusalOf, argumentsOf}
-use Rattle.packetrules.specs.Laws.{outcome}
+use Rattle.packetrules.specs.Judge.{argumentsOf}
+use Rattle.packetrules.specs.Rejection.{isRejection}
 use Rattle.state.specs.declared.types.Arm.{Arm}
 use Rattle.state.specs.declared.types.Run.{Run}
-use Rattle.state.specs.Tables.{faultId, padded}
+use Rattle.state.specs.Tables.{faultId}
 use Rattle.state.specs.Rules.{member}
-use Rattle.image.specs.Records.{Record}
-use Rattle.image.specs.Image.{ofKind, tablesOfRecords}
-use Rattle.faultstates.specs.FaultStates.{nextState, rowAfter, actOn, rowFor, stateFor}
+use Rattle.records.specs.Records.{Record}
+use Rattle.faultstates.specs.FaultStates.{nextState, rowAfter, latchedBy}
 use Rattle.arming.specs.Arming.{unarmed, armedFor, armSet, armAfter, ticked, tickAnswer}
 use Rattle.counters.specs.Counters.{up, packetCounts, rejectedCounts, faultCounts}
-use Rattle.answers.specs.RowLaws.{not-fault}
 use Rattle.answers.specs.declared.own.Own.{Own}
 use Rattle.answers.specs.declared.own.Own.the-variants as own
 use Rattle.answers.specs.Own.{ruleOf, ownCommand, isReset}
 use Rattle.answers.specs.Answers as steps
 use Rattle.faultstates.specs.FaultStates as events
-use Rattle.steprules.specs.Step.{statesBy, statesAfter, acted, acceptedStep, rejectedStep, packetStep, tickStep, faulted, faultStep}
+use Rattle.steprules.specs.Step.{statesAfter, acted, acceptedStep, rejectedStep, packetStep, tickStep, faulted, faultStep}
+use Rattle.steprules.specs.StateLaws.{doneOn}
+use Rattle.steprules.specs.Packets.{refusal-under-not}
 use Rattle.steprules.specs.StepLaws.{packet-rejected, packet-accepted}
-use Rattle.steprules.specs.Demand1.{refused-range}
-use Rattle.history.specs.Plain.{rowNamed, Event, packet, tick, fault, accepted, nearest, ticksSince, Row, rowOf, whenEnabled, whenCleared, whenFaulted, faultAnswer, faultReply, more, tables, rows, selects, isArm, timeout, lasts, armed, packetAnswer, done, stateOf, faultNamed, packetReply, reply}
+use Rattle.history.specs.Plain.{Event, packet, tick, fault, refusal, accepted, nearest, ticksSince, thisRow, whenEnabled, whenCleared, whenFaulted, faultAnswer, faultReply, more, tables, rows, rowHere, meantBy, rowMeant, selects, isArm, timeout, lasts, armed, packetAnswer, done, stateOf, faultNamed, packetReply, reply}
 use Rattle.history.specs.Path.{step, replyOf}
 use Rattle.history.specs.Known.{left, knownCounts, known}
-use Rattle.history.specs.RowsLaws.{plainRow, Distinct, map-same, map-then, act-known, clear-known, row-named, fault-answer, fault-known}
+use Rattle.history.specs.RowsLaws.{meant-is, row-is, named-row, statesFor, states-by, state-here, onward-known, clear-known}
 use Rattle.history.specs.AnswersLaws.{numberFor, resets-by-number, selects-is, answer-is, arm-answer}
 
 -- ---- counters
@@ -45,41 +44,27 @@ up-more : (b : Bool) (x : ℕ) → up b (x % 65536) ≡ more b x % 65536
 up-more true x = mod-add-mod x 65536 1
 up-more false x = refl
 
--- ---- fault states, on rows that are distinct
+-- ---- fault states
 
-module _ (rs : List Row) (d : Distinct rs) (st : Row → ℕ) (args : List ℕ) where
-  abbrev zeros : List ℕ
-  zeros = replicate (32 - length rs) 0
+module _ (n : ℕ) (st : ℕ → ℕ) (place : Option ℕ) (below : (k : ℕ) → place ≡ some k → k < n) where
+  -- what own command k, done, makes of the state of the row at place j
+  abbrev toldBy : ℕ → ℕ → ℕ
+  toldBy k j =
+      cond (eqb k 4 && thisRow j place) (whenEnabled (st j))
+      (cond (eqb k 5 && thisRow j place) 0
+      (cond (eqb k 6 && thisRow j place) (whenCleared (st j))
+      (cond (eqb k 7) (whenCleared (st j))
+      (st j))))
 
-  -- what own command k, done, makes of a row's state
-  abbrev toldBy : ℕ → Row → ℕ
-  toldBy k r =
-      cond (eqb k 4 && eqb (faultNamed args) (r .row .id)) (whenEnabled (st r))
-      (cond (eqb k 5 && eqb (faultNamed args) (r .row .id)) 0
-      (cond (eqb k 6 && eqb (faultNamed args) (r .row .id)) (whenCleared (st r))
-      (cond (eqb k 7) (whenCleared (st r))
-      (st r))))
-
-  abbrev states : List ℕ
-  states = map st rs ++ zeros
-
-  -- an event that is no fault on the row of the fault id that is named
-  row-told : (e : ℕ) → (e ≡ events.fault → ⊥) → (told : Row → ℕ) → ((r : Row) → cond (eqb (faultNamed args) (r .row .id)) (nextState (st r) e) (st r) ≡ told r)
-      → actOn e (faultNamed args) (map plainRow rs) states ≡ map told rs ++ zeros
-  row-told e n told s = act-known e (faultNamed args) st rs zeros d ∙ ap (λ (l : List ℕ). l ++ zeros) (map-same rs by)
-    where
-      by : (r : Row) → cond (eqb (faultNamed args) (r .row .id)) (rowAfter (r .row .latching) (st r) e) (st r) ≡ told r
-      by r = rw (← not-fault (r .row .latching) (st r) e n) (s r)
-
-  done-known : (k : Own) → statesBy (λ e. actOn e (faultNamed args) (map plainRow rs) states) k states ≡ map (toldBy (ruleOf k .number)) rs ++ zeros
+  done-known : (k : Own) → doneOn place k (statesFor st n) ≡ statesFor (toldBy (ruleOf k .number)) n
   done-known own.Arm = refl
   done-known own.ResetCounters = refl
   done-known own.NoOp = refl
   done-known own.NoOpWithArgument = refl
-  done-known own.Enable = row-told events.enable (λ z. omega arith) (toldBy 4) (λ r. refl)
-  done-known own.Disable = row-told events.disable (λ z. omega arith) (toldBy 5) (λ r. refl)
-  done-known own.Clear = row-told events.clear (λ z. omega arith) (toldBy 6) (λ r. refl)
-  done-known own.ClearAll = clear-known st rs (32 - length rs)
+  done-known own.Enable = onward-known st n (λ s. nextState s events.enable) place below
+  done-known own.Disable = onward-known st n (λ s. nextState s events.disable) place below
+  done-known own.Clear = onward-known st n (λ s. nextState s events.clear) place below
+  done-known own.ClearAll = clear-known st n
 
 -- ---- the arm record
 
@@ -149,23 +134,21 @@ module _ (image : List Record) where
 
 pub record Sound (image : List Record) : Type 0 where
   pub free : member (tables image .base) (tables image .protected) ≡ false
-  pub distinct : Distinct (rows image)
 
 module _ (image : List Record) where
-  rows-are : tables image .rows ≡ map plainRow (rows image)
-  unfolding tablesOfRecords
-  rows-are = sym (map-then plainRow rowOf (ofKind 4 image))
+  abbrev count : ℕ
+  count = length (rows image)
 
-  padded-rows : (f : Row → ℕ) → padded 32 (map f (rows image)) ≡ map f (rows image) ++ replicate (32 - length (rows image)) 0
-  padded-rows f = rw (length-map (rows image) f)
+  below : (f k : ℕ) → meantBy image f ≡ some k → k < count
+  below f k e = named-row image f k e .0
 
   module _ (s : Sound image) (h : List Event) where
-    abbrev st : Row → ℕ
+    abbrev st : ℕ → ℕ
     st = stateOf image h
 
     -- ---- an accepted packet
 
-    module _ (p : List ℕ) (a : accepted p ≡ true) where
+    module _ (p : List ℕ) (a : accepted image p ≡ true) where
       abbrev n : ℕ
       n = packetAnswer image h p
 
@@ -185,24 +168,21 @@ module _ (image : List Record) where
       done-none : (j : ℕ) → selects image p ≡ 8 → eqb 8 j ≡ false → done image j h p ≡ false
       done-none j q e = rw (a, q, e)
 
-      states-known : statesAfter (tables image .rows) n o (argumentsOf p) (padded 32 (map st (rows image))) ≡ padded 32 (map (stateOf image (packet p ∷ h)) (rows image))
+      states-known : statesAfter (map faultId (tables image .rows)) n o (argumentsOf p) (statesFor st count) ≡ statesFor (stateOf image (packet p ∷ h)) count
       unfolding statesAfter
       states-known = go o (selects-is image p) (eqb n 12) refl
         where
-          After : Option Own → Type 0
-          After c = statesAfter (tables image .rows) n c (argumentsOf p) (padded 32 (map st (rows image))) ≡ padded 32 (map (stateOf image (packet p ∷ h)) (rows image))
+          f : ℕ
+          f = faultNamed (argumentsOf p)
 
-          same : ((r : Row) → st r ≡ stateOf image (packet p ∷ h) r) → padded 32 (map st (rows image)) ≡ padded 32 (map (stateOf image (packet p ∷ h)) (rows image))
-          same e = ap (padded 32) (map-same (rows image) e)
-
-          go : (c : Option Own) → selects image p ≡ numberFor c → (b : Bool) → eqb n 12 ≡ b → After c
-          go none q b e = same (λ r. sym (simp (done-none 4 q refl, done-none 5 q refl, done-none 6 q refl, done-none 7 q refl)))
-          go (some k) q true e =
-              let by : (j : ℕ) → done image j h p ≡ eqb (ruleOf k .number) j = λ j. done-is j e ∙ ap (λ m. eqb m j) q in
-              rw (e, rows-are, padded-rows st, padded-rows (stateOf image (packet p ∷ h)))
-              (done-known (rows image) (s .distinct) st (argumentsOf p) k
-              ∙ ap (λ (l : List ℕ). l ++ replicate (32 - length (rows image)) 0) (map-same (rows image) (λ r. sym (simp (by 4, by 5, by 6, by 7)))))
-          go (some k) q false e = simp e (same (λ r. sym (simp (done-not 4 e, done-not 5 e, done-not 6 e, done-not 7 e))))
+          go : (c : Option Own) → selects image p ≡ numberFor c → (b : Bool) → eqb n 12 ≡ b
+              → statesAfter (map faultId (tables image .rows)) n c (argumentsOf p) (statesFor st count) ≡ statesFor (stateOf image (packet p ∷ h)) count
+          go none q b e = states-by count (λ k. sym (simp (done-none 4 q refl, done-none 5 q refl, done-none 6 q refl, done-none 7 q refl)))
+          go (some c) q true e =
+              let by : (j : ℕ) → done image j h p ≡ eqb (ruleOf c .number) j = λ j. done-is j e ∙ ap (λ m. eqb m j) q in
+              rw (e, meant-is image f)
+              (done-known count st (meantBy image f) (below f) c ∙ states-by count (λ k. sym (simp (by 4, by 5, by 6, by 7))))
+          go (some c) q false e = simp e (states-by count (λ k. sym (simp (done-not 4 e, done-not 5 e, done-not 6 e, done-not 7 e))))
 
       reply-answer : reply image h (packet p) .answer ≡ n
       reply-answer = rw a (go (eqb n 10) refl)
@@ -247,29 +227,25 @@ module _ (image : List Record) where
 
     -- ---- a rejected packet
 
-    module _ (p : List ℕ) (a : accepted p ≡ false) where
-      rejected-step : packetStep (tables image) (known image h) p ≡ rejectedStep (known image h) (refusalOf p)
-      rejected-step = sym (packet-rejected (tables image) (known image h) p (refusalOf p) (refl, eqb-false _ _ a))
+    module _ (p : List ℕ) (a : accepted image p ≡ false) where
+      rejected-step : packetStep (tables image) (known image h) p ≡ rejectedStep (known image h) (refusal image p)
+      rejected-step = sym (packet-rejected (tables image) (known image h) p (refusal image p) (refl, eqb-false _ _ a))
 
-      never : (m : ℕ) → (m < 22) ⊎ (29 < m) → eqb (refusalOf p) m ≡ false
-      never m b = ne-eqb (refusalOf p) m (λ e. go b (refused-range (outcome p) (eqb-false _ _ a)) e)
-        where
-          go : (m < 22) ⊎ (29 < m) → (22 ≤ refusalOf p) × (refusalOf p ≤ 29) → refusalOf p ≡ m → ⊥
-          go (inl l) (x, y) e = omega arith
-          go (inr l) (x, y) e = omega arith
+      never : (m : ℕ) → isRejection m ≡ false → eqb (refusal image p) m ≡ false
+      never = refusal-under-not (tables image) p (eqb-false _ _ a)
 
-      rejected-reply : replyOf (tables image) (packet p) (rejectedStep (known image h) (refusalOf p)) ≡ reply image h (packet p)
+      rejected-reply : replyOf (tables image) (packet p) (rejectedStep (known image h) (refusal image p)) ≡ reply image h (packet p)
       unfolding rejectedStep
-      rejected-reply = simp (a, never 10 (inl (lit< tt)))
+      rejected-reply = simp (a, never 10 refl)
 
-      same-states : map (stateOf image (packet p ∷ h)) (rows image) ≡ map st (rows image)
-      same-states = map-same (rows image) (λ r. simp a)
+      same-states : statesFor (stateOf image (packet p ∷ h)) count ≡ statesFor st count
+      same-states = states-by count (λ k. simp a)
 
-      rejected-run : rejectedStep (known image h) (refusalOf p) .run ≡ known image (packet p ∷ h)
+      rejected-run : rejectedStep (known image h) (refusal image p) .run ≡ known image (packet p ∷ h)
       unfolding rejectedStep rejectedCounts
       rejected-run =
           rw same-states
-          (simp (a, up-more true, never 10 (inl (lit< tt)), never 30 (inr (lit< tt)), never 33 (inr (lit< tt)), never 31 (inr (lit< tt)), never 32 (inr (lit< tt))))
+          (simp (a, up-more true, never 10 refl, never 30 refl, never 33 refl, never 31 refl, never 32 refl))
 
     -- ---- a tick
 
@@ -283,91 +259,111 @@ module _ (image : List Record) where
     unfolding tickStep
     tick-run =
         let b = armed image h && not (armed image (tick ∷ h)) in
-        rw (arm-tick image (nearest h) (ticksSince h))
+        rw (arm-tick image (nearest image h) (ticksSince image h))
         (simp (tick-not 10 (inl (lit< tt)) b, tick-not 30 (inr (lit< tt)) b, tick-not 33 (inr (lit< tt)) b, tick-not 31 (inr (lit< tt)) b, tick-not 32 (inr (lit< tt)) b))
 
     tick-reply : replyOf (tables image) tick (tickStep (known image h)) ≡ reply image h tick
     unfolding tickStep
-    tick-reply = rw (answer-tick image (nearest h) (ticksSince h))
+    tick-reply = rw (answer-tick image (nearest image h) (ticksSince image h))
 
     -- ---- a fault
 
     module _ (f : ℕ) where
+      abbrev place : Option ℕ
+      place = meantBy image f
+
       abbrev fn : ℕ
-      fn = faultAnswer f st (rows image)
+      fn = faultAnswer st place
 
-      checks : (m e : Bool) → cond m (cond e 10 13) 34 ≡ check m 34 (check e 13 10)
-      checks true true = refl
-      checks true false = refl
-      checks false e = refl
-
-      fault-is : fn ≡ steps.faultAnswer (tables image .rows) (padded 32 (map st (rows image))) f
+      fault-is : fn ≡ steps.faultAnswer (statesFor st count) place
       unfolding steps.faultAnswer
-      fault-is =
-          rw (rows-are, padded-rows st)
-          (fault-answer f st (rows image) (replicate (32 - length (rows image)) 0)
-          ∙ checks (member f (map faultId (map plainRow (rows image)))) (eqb (stateFor f (map plainRow (rows image)) (map st (rows image) ++ replicate (32 - length (rows image)) 0)) 1))
-
-      fault-step : faultStep (tables image) (known image h) f ≡ faulted (tables image) (known image h) f fn
-      unfolding faultStep
-      fault-step = ap (faulted (tables image) (known image h) f) (sym fault-is)
-
-      fault-numbers : (rs : List Row) → (P : ℕ → Type 0) → P 10 → P 13 → P 34 → P (faultAnswer f st rs)
-      fault-numbers [] P a b c = c
-      fault-numbers (r ∷ rs) P a b c = go (fault-numbers rs P a b c) (eqb f (r .row .id)) refl (eqb (st r) 1) refl
+      fault-is = go place (below f)
         where
-          go : P (faultAnswer f st rs) → (x : Bool) → eqb f (r .row .id) ≡ x → (y : Bool) → eqb (st r) 1 ≡ y → P (faultAnswer f st (r ∷ rs))
-          go ih true ex true ey = simp (ex, ey) a
-          go ih true ex false ey = simp (ex, ey) b
-          go ih false ex y ey = simp ex ih
+          checks : (e : Bool) → cond e 10 13 ≡ check e 13 10
+          checks true = refl
+          checks false = refl
+
+          go : (o : Option ℕ) → ((k : ℕ) → o ≡ some k → k < count) → faultAnswer st o ≡ steps.faultAnswer (statesFor st count) o
+          go none b = refl
+          go (some k) b = rw (state-here st count k (b k refl)) (checks (eqb (st k) 1))
+
+      fault-step : faultStep (tables image) (known image h) f ≡ faulted (tables image) (known image h) place fn
+      unfolding faultStep
+      fault-step = rw (meant-is image f) (ap (faulted (tables image) (known image h) place) (sym fault-is))
 
       fault-not : (m : ℕ) → eqb 10 m ≡ false → eqb 13 m ≡ false → eqb 34 m ≡ false → eqb fn m ≡ false
-      fault-not m a b c = fault-numbers (rows image) (λ n. eqb n m ≡ false) a b c
+      fault-not m a b c = go place
+        where
+          by : (e : Bool) → eqb (cond e 10 13) m ≡ false
+          by true = a
+          by false = b
+
+          go : (o : Option ℕ) → eqb (faultAnswer st o) m ≡ false
+          go none = c
+          go (some k) = by (eqb (st k) 1)
 
       fault-reply-answer : reply image h (fault f) .answer ≡ fn
       fault-reply-answer = go (eqb fn 10) refl
         where
-          go : (b : Bool) → eqb fn 10 ≡ b → faultReply image f fn .answer ≡ fn
+          go : (b : Bool) → eqb fn 10 ≡ b → faultReply image place fn .answer ≡ fn
           go true e = simp e (sym (eqb-true fn 10 e))
           go false e = simp e
 
-      fault-states : cond (eqb fn 10) (actOn events.fault f (tables image .rows) (padded 32 (map st (rows image)))) (padded 32 (map st (rows image))) ≡ padded 32 (map (stateOf image (fault f ∷ h)) (rows image))
+      -- a fault answered 10 found its row enabled, so the table of events gives what the plain reading says
+      enabled-faults : (latching s : ℕ) → s ≡ 1 → rowAfter latching s events.fault ≡ cond (eqb latching 0) 1 2
+      unfolding rowAfter
+      enabled-faults latching s e = rw e
+
+      faulted-known : fn ≡ 10 → (k : ℕ) → cond (thisRow k place) (rowAfter (rowMeant image place .latching) (st k) events.fault) (st k) ≡ cond (thisRow k place) (whenFaulted (rowHere image k .row)) (st k)
+      faulted-known e k = go place e
+        where
+          this : (j : ℕ) → faultAnswer st (some j) ≡ 10 → (b : Bool) → eqb j k ≡ b
+              → cond b (rowAfter (rowHere image j .row .latching) (st k) events.fault) (st k) ≡ cond b (whenFaulted (rowHere image k .row)) (st k)
+          this j e false q = refl
+          this j e true q = rw (eqb-true j k q) (enabled-faults (rowHere image k .row .latching) (st k) (on (eqb (st k) 1) refl (rw (eqb-true j k q) at e)))
+            where
+              on : (b : Bool) → eqb (st k) 1 ≡ b → faultAnswer st (some k) ≡ 10 → st k ≡ 1
+              on true w z = eqb-true _ _ w
+              on false w z = absurd (omega (arith, rw w at z))
+
+          go : (o : Option ℕ) → faultAnswer st o ≡ 10
+              → cond (thisRow k o) (rowAfter (rowMeant image o .latching) (st k) events.fault) (st k) ≡ cond (thisRow k o) (whenFaulted (rowHere image k .row)) (st k)
+          go none z = refl
+          go (some j) z = this j z (eqb j k) refl
+
+      fault-states : cond (eqb fn 10) (latchedBy (tables image .rows) place (statesFor st count)) (statesFor st count) ≡ statesFor (stateOf image (fault f ∷ h)) count
       fault-states = go (eqb fn 10) refl
         where
-          go : (b : Bool) → eqb fn 10 ≡ b → cond (eqb fn 10) (actOn events.fault f (tables image .rows) (padded 32 (map st (rows image)))) (padded 32 (map st (rows image))) ≡ padded 32 (map (stateOf image (fault f ∷ h)) (rows image))
-          go true e =
-              rw (e, rows-are, padded-rows st, padded-rows (stateOf image (fault f ∷ h)))
-              (act-known events.fault f st (rows image) (replicate (32 - length (rows image)) 0) (s .distinct)
-              ∙ ap (λ (l : List ℕ). l ++ replicate (32 - length (rows image)) 0)
-              (fault-known f st (rows image) (s .distinct) (eqb-true fn 10 e) ∙ map-same (rows image) (λ r. sym (rw (e, and-true (eqb f (r .row .id)))))))
-          go false e = rw e (ap (padded 32) (map-same (rows image) (λ r. sym (rw e (neither (eqb f (r .row .id)) r)))))
-            where
-              neither : (b : Bool) (r : Row) → cond (b && false) (whenFaulted r) (st r) ≡ st r
-              neither true r = refl
-              neither false r = refl
+          neither : (b : Bool) (k : ℕ) → cond (b && false) (whenFaulted (rowHere image k .row)) (st k) ≡ st k
+          neither true k = refl
+          neither false k = refl
 
-      fault-run : faulted (tables image) (known image h) f fn .run ≡ known image (fault f ∷ h)
+          go : (b : Bool) → eqb fn 10 ≡ b → cond (eqb fn 10) (latchedBy (tables image .rows) place (statesFor st count)) (statesFor st count) ≡ statesFor (stateOf image (fault f ∷ h)) count
+          go true e =
+              rw (e, row-is image place)
+              (onward-known st count (λ s. rowAfter (rowMeant image place .latching) s events.fault) place (below f)
+              ∙ states-by count (λ k. faulted-known (eqb-true fn 10 e) k ∙ sym (rw (e, and-true (thisRow k place)))))
+          go false e = rw e (states-by count (λ k. sym (rw e (neither (thisRow k place) k))))
+
+      fault-run : faulted (tables image) (known image h) place fn .run ≡ known image (fault f ∷ h)
       unfolding faultCounts
       fault-run =
           rw (fault-states, fault-reply-answer, fault-not 30 refl refl refl, fault-not 33 refl refl refl, fault-not 31 refl refl refl, fault-not 32 refl refl refl)
           (simp (up-more true, up-more (eqb fn 10)))
 
-      row-is : rowFor f (tables image .rows) ≡ rowNamed f (rows image)
-      row-is = ap (rowFor f) rows-are ∙ row-named f (rows image)
-
-      fault-replies : replyOf (tables image) (fault f) (faulted (tables image) (known image h) f fn) ≡ reply image h (fault f)
+      fault-replies : replyOf (tables image) (fault f) (faulted (tables image) (known image h) place fn) ≡ reply image h (fault f)
       fault-replies = go (eqb fn 10) refl
         where
-          go : (b : Bool) → eqb fn 10 ≡ b → replyOf (tables image) (fault f) (faulted (tables image) (known image h) f fn) ≡ faultReply image f fn
-          go true e = rw (eqb-true fn 10 e, row-is)
+          go : (b : Bool) → eqb fn 10 ≡ b → replyOf (tables image) (fault f) (faulted (tables image) (known image h) place fn) ≡ faultReply image place fn
+          go true e = rw (eqb-true fn 10 e, meant-is image f, row-is image place)
           go false e = simp e
 
     -- ---- any event
 
     pub step-known : (e : Event) → (replyOf (tables image) e (step (tables image) (known image h) e) ≡ reply image h e) × (step (tables image) (known image h) e .run ≡ known image (e ∷ h))
-    step-known (packet p) = go (accepted p) refl
+    step-known (packet p) = go (accepted image p) refl
       where
-        go : (b : Bool) → accepted p ≡ b → (replyOf (tables image) (packet p) (packetStep (tables image) (known image h) p) ≡ reply image h (packet p)) × (packetStep (tables image) (known image h) p .run ≡ known image (packet p ∷ h))
+        go : (b : Bool) → accepted image p ≡ b → (replyOf (tables image) (packet p) (packetStep (tables image) (known image h) p) ≡ reply image h (packet p)) × (packetStep (tables image) (known image h) p .run ≡ known image (packet p ∷ h))
         go true a = rw (accepted-step p a) (reply-known p a (known image h) ∙ rw a, accepted-run p a)
         go false a = rw (rejected-step p a) (rejected-reply p a, rejected-run p a)
     step-known tick = (tick-reply, tick-run)

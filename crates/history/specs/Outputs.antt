@@ -3,7 +3,8 @@
 use mathlib.Core.Path.{_≡_, refl, ap, subst, _∙_}
 use mathlib.Core.Bool.{Bool, true, false, cond}
 use mathlib.Core.List.{List, [], _∷_, map}
-use Prim.Native.Nat.{ℕ, _≤_}
+use mathlib.Core.Option.{Option, none, some}
+use Prim.Native.Nat.{ℕ, zero, suc, _≤_}
 use native.Mathlib.Omega.{arith}
 use lib.Dec.{eqb, leb, lit≤}
 use lib.ListN.{length, drop, length-append, length-drop}
@@ -16,13 +17,13 @@ use Rattle.state.specs.declared.types.Config.{Config}
 use Rattle.state.specs.declared.types.Run.{Run}
 use Rattle.state.specs.Tables.{FaultRow, Tables, routed, tablesOf}
 use Rattle.state.specs.Keeps.{Each, RowOk}
-use Rattle.dispatch.specs.Dispatch.{commandBytes, over, sent}
-use Rattle.faultstates.specs.FaultStates.{rowFor}
+use Rattle.dispatch.specs.Dispatch.{commandBytes, over, sent, stepRoom}
+use Rattle.faultstates.specs.FaultStates.{meant, rowFor}
 use Rattle.steprules.specs.Step.{packetOutput, faultOutput}
-use Rattle.image.specs.Records.{Record, recordsOf}
+use Rattle.records.specs.Records.{Record, recordsOf}
 use Rattle.image.specs.Image.{loadOf}
 use Rattle.image.specs.Theorems.{loads-good}
-use Rattle.history.specs.Plain.{Event, packet, tick, fault, Reply, bare, tables, reply}
+use Rattle.history.specs.Plain.{Event, packet, tick, fault, Reply, bareReply, tables, reply}
 use Rattle.history.specs.Path.{step, bytesFor, replyOf}
 use Rattle.history.specs.Known.{known}
 use Rattle.history.specs.KnownLaws.{step-known}
@@ -78,7 +79,7 @@ module _ (t : Tables) (n : ℕ) (out : List ℕ) where
 
   pub fault-over : (f : ℕ) → faultOutput t n f out ≡ over (bytesFor t (fault f) n) out
   unfolding faultOutput
-  fault-over f = sent-over n (t .fault) (rowFor f (t .rows) .response) (rowFor f (t .rows) .args) out
+  fault-over f = let row = rowFor (meant t f) (t .rows) in sent-over n (t .fault) (row .response) (row .args) out
 
   pub output-over : (e : Event) → outputFor t e n out ≡ over (bytesFor t e n) out
   output-over (packet p) = packet-over p
@@ -97,23 +98,21 @@ outputs-over c s (x ∷ xs) =
 
 -- at most 260, and none where the answer is not 10
 pub record Fits (r : Reply) : Type 0 where
-  pub short : length (r .bytes) ≤ 260
+  pub short : length (r .bytes) ≤ stepRoom
   pub quiet : (r .answer ≡ 10 → ⊥) → r .bytes ≡ []
 
 -- a row that keeps its rules has at most 16 arguments
-row-few : (ids : List ℕ) (rows : List FaultRow) → Each (RowOk ids) rows → (f : ℕ) → length (rowFor f rows .args) ≤ 255
-row-few ids [] h f = lit≤ tt
-row-few ids (r ∷ rows) h f = go (eqb f (r .id)) (row-few ids rows (h .1) f)
-  where
-    go : (b : Bool) → length (rowFor f rows .args) ≤ 255 → length (cond b r (rowFor f rows) .args) ≤ 255
-    go true ih = omega (arith, h .0 .few-args)
-    go false ih = ih
+row-few : (ids : List ℕ) (rows : List FaultRow) → Each (RowOk ids) rows → (place : Option ℕ) → length (rowFor place rows .args) ≤ 255
+row-few ids rows h none = lit≤ tt
+row-few ids [] h (some k) = lit≤ tt
+row-few ids (r ∷ rows) h (some zero) = omega (arith, h .0 .few-args)
+row-few ids (r ∷ rows) h (some (suc k)) = row-few ids rows (h .1) (some k)
 
 command-fits : (n source id : ℕ) (args : List ℕ) → length args ≤ 255
-    → (length (cond (eqb n 10) (commandBytes source id args) []) ≤ 260) × ((n ≡ 10 → ⊥) → cond (eqb n 10) (commandBytes source id args) [] ≡ [])
+    → (length (cond (eqb n 10) (commandBytes source id args) []) ≤ stepRoom) × ((n ≡ 10 → ⊥) → cond (eqb n 10) (commandBytes source id args) [] ≡ [])
 command-fits n source id args l = (go (eqb n 10), λ h. simp (ne-eqb n 10 h))
   where
-    go : (b : Bool) → length (cond b (commandBytes source id args) []) ≤ 260
+    go : (b : Bool) → length (cond b (commandBytes source id args) []) ≤ stepRoom
     go true = omega arith
     go false = lit≤ tt
 
@@ -124,11 +123,11 @@ step-fits t ok s (packet p) =
     record { short = f .0; quiet = f .1 }
 step-fits t ok s tick = record { short = lit≤ tt; quiet = λ q. refl }
 step-fits t ok s (fault f) =
-    let r = rowFor f (t .rows) in
-    let w = command-fits (step t s (fault f) .answer .answer) (t .fault) (r .response) (r .args) (row-few (routed t) (t .rows) ok f) in
+    let r = rowFor (meant t f) (t .rows) in
+    let w = command-fits (step t s (fault f) .answer .answer) (t .fault) (r .response) (r .args) (row-few (routed t) (t .rows) ok (meant t f)) in
     record { short = w .0; quiet = w .1 }
 
-bare-fits : (n : ℕ) → Fits (bare n)
+bare-fits : (n : ℕ) → Fits (bareReply n)
 bare-fits n = record { short = lit≤ tt; quiet = λ q. refl }
 
 -- ---- what a call leaves in its buffer, by its plain reply
@@ -167,7 +166,7 @@ module _ (image : List ℕ) (z : loadOf image .answer ≡ 0) where
   call-fits : (h : List Event) (x : Call) → Fits (callReply records h x)
   call-fits h x = go (roomy (x .event) (x .room))
     where
-      go : (b : Bool) → Fits (cond b (reply records h (x .event)) (bare 21))
+      go : (b : Bool) → Fits (cond b (reply records h (x .event)) (bareReply 21))
       go true = reply-fits h (x .event)
       go false = bare-fits 21
 
@@ -175,14 +174,14 @@ module _ (image : List ℕ) (z : loadOf image .answer ≡ 0) where
   call-room : (h : List Event) (x : Call) → length (callReply records h x .bytes) ≤ x .room
   call-room h x = by (x .event)
     where
-      sends : (e : Event) (b : Bool) → leb 260 (x .room) ≡ b → length (cond b (reply records h e) (bare 21) .bytes) ≤ x .room
-      sends e true l = omega (arith, reply-fits h e .short, leb-true 260 (x .room) l)
+      sends : (e : Event) (b : Bool) → leb stepRoom (x .room) ≡ b → length (cond b (reply records h e) (bareReply 21) .bytes) ≤ x .room
+      sends e true l = omega (arith, reply-fits h e .short, leb-true stepRoom (x .room) l)
       sends e false l = omega arith
 
-      by : (e : Event) → length (cond (roomy e (x .room)) (reply records h e) (bare 21) .bytes) ≤ x .room
-      by (packet p) = sends (packet p) (leb 260 (x .room)) refl
+      by : (e : Event) → length (cond (roomy e (x .room)) (reply records h e) (bareReply 21) .bytes) ≤ x .room
+      by (packet p) = sends (packet p) (leb stepRoom (x .room)) refl
       by tick = omega arith
-      by (fault f) = sends (fault f) (leb 260 (x .room)) refl
+      by (fault f) = sends (fault f) (leb stepRoom (x .room)) refl
 
   -- from the load on, every buffer that the public steps leave is, byte by byte, the one of the plain reading
   pub outputs-agree : (xs : List Buffered) → CallBytes (map callOf xs) → outputs config (loadOf image .run) xs ≡ laid (callReplies records [] (map callOf xs)) xs

@@ -7,12 +7,12 @@ use Rattle.packetrules.specs.Layout.{commandId}
 use Rattle.packetrules.specs.Judge.{argumentsOf}
 use Rattle.state.specs.declared.types.Run.{Run}
 use Rattle.state.specs.Tables.{Tables}
-use Rattle.faultstates.specs.FaultStates.{rowFor}
+use Rattle.faultstates.specs.FaultStates.{meant, rowFor}
 use Rattle.dispatch.specs.Dispatch.{commandBytes}
 use Rattle.steprules.specs.declared.types.Answer.{Answer}
 use Rattle.steprules.specs.declared.types.Stepped.{Stepped}
 use Rattle.steprules.specs.Step.{packetStep, tickStep, faultStep}
-use Rattle.history.specs.Plain.{Event, packet, tick, fault, Reply}
+use Rattle.history.specs.Plain.{Event, packet, tick, fault, Reply, replyFrom}
 
 -- one step
 abbrev pub step : Tables → Run → Event → Stepped
@@ -25,11 +25,11 @@ abbrev pub bytesFor : Tables → Event → ℕ → List ℕ
 bytesFor t (packet p) n = cond (eqb n 10) (commandBytes (t .ground) (commandId p) (argumentsOf p)) []
 bytesFor t tick n = []
 bytesFor t (fault f) n =
-    cond (eqb n 10) (commandBytes (t .fault) (rowFor f (t .rows) .response) (rowFor f (t .rows) .args)) []
+    cond (eqb n 10) (commandBytes (t .fault) (rowFor (meant t f) (t .rows) .response) (rowFor (meant t f) (t .rows) .args)) []
 
 -- the reply of a step that gave this answer
 abbrev pub replyWith : Tables → Event → Answer → Reply
-replyWith t e a = record { answer = a .answer; id = a .id; dest = a .dest; written = a .written; bytes = bytesFor t e (a .answer) }
+replyWith t e a = replyFrom (a .answer) (a .id) (a .dest) (a .written) (bytesFor t e (a .answer))
 
 abbrev pub replyOf : Tables → Event → Stepped → Reply
 replyOf t e s = replyWith t e (s .answer)

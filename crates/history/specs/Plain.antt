@@ -4,14 +4,14 @@
 use mathlib.Core.Bool.{Bool, true, false, cond, not, _&&_, _||_}
 use mathlib.Core.List.{List, [], _∷_, map}
 use mathlib.Core.Option.{Option, none, some}
-use Prim.Native.Nat.{ℕ, _+_, _-_, _*_, _/_, _%_}
+use Prim.Native.Nat.{ℕ, suc, _+_, _-_, _*_, _/_, _%_}
 use lib.Dec.{eqb, leb, ltb}
 use lib.ListN.{length, getD}
 use Rattle.packetrules.specs.Layout.{commandId}
 use Rattle.packetrules.specs.Judge.{refusalOf, argumentsOf}
-use Rattle.state.specs.Tables.{Route, FaultRow, Tables, faultId, routed}
+use Rattle.state.specs.Tables.{Route, FaultRow, Tables, routed}
 use Rattle.state.specs.Rules.{own, member}
-use Rattle.image.specs.Records.{Record}
+use Rattle.records.specs.Records.{Record}
 use Rattle.image.specs.Image.{ofKind, rowIn, startIn, tablesOfRecords}
 
 -- ---- events and replies
@@ -34,41 +34,20 @@ pub record Reply : Type 0 where
   pub written : ℕ
   pub bytes : List ℕ
 
--- an answer with no id; one with its id; a command dispatched
-abbrev pub bare : ℕ → Reply
-bare n = record { answer = n; id = 0; dest = 0; written = 0; bytes = [] }
+abbrev pub replyFrom : ℕ → ℕ → ℕ → ℕ → List ℕ → Reply
+replyFrom n id dest written bytes = record { answer = n; id = id; dest = dest; written = written; bytes = bytes }
 
-abbrev pub named : ℕ → ℕ → Reply
-named n id = record { answer = n; id = id; dest = 0; written = 0; bytes = [] }
+-- an answer with no id; one with its id; a command dispatched
+abbrev pub bareReply : ℕ → Reply
+bareReply n = replyFrom n 0 0 0 []
+
+abbrev pub namedReply : ℕ → ℕ → Reply
+namedReply n id = replyFrom n id 0 0 []
 
 -- source, command id, argument count, arguments
-abbrev pub dispatched : ℕ → ℕ → ℕ → List ℕ → Reply
-dispatched source id dest args =
-    record {
-      answer = 10;
-      id = id;
-      dest = dest;
-      written = 5 + length args;
-      bytes = source / 256 ∷ source % 256 ∷ id / 256 ∷ id % 256 ∷ length args ∷ args;
-    }
-
--- a packet is accepted by the judge's rules
-abbrev pub accepted : List ℕ → Bool
-accepted p = eqb (refusalOf p) 0
-
--- ---- the nearest earlier accepted packet, and the ticks since
-
-abbrev pub nearest : List Event → Option (List ℕ)
-nearest [] = none
-nearest (packet p ∷ h) = cond (accepted p) (some p) (nearest h)
-nearest (tick ∷ h) = nearest h
-nearest (fault f ∷ h) = nearest h
-
-abbrev pub ticksSince : List Event → ℕ
-ticksSince [] = 0
-ticksSince (packet p ∷ h) = cond (accepted p) 0 (ticksSince h)
-ticksSince (tick ∷ h) = ticksSince h + 1
-ticksSince (fault f ∷ h) = ticksSince h
+abbrev pub dispatchedReply : ℕ → ℕ → ℕ → List ℕ → Reply
+dispatchedReply source id dest args =
+    replyFrom 10 id dest (5 + length args) (source / 256 ∷ source % 256 ∷ id / 256 ∷ id % 256 ∷ length args ∷ args)
 
 -- ---- the destination of a routed id
 
@@ -85,6 +64,27 @@ pub record Row : Type 0 where
 abbrev pub rowOf : List ℕ → Row
 rowOf body = record { row = rowIn body; start = startIn body }
 
+abbrev pub noRow : Row
+noRow = record { row = record { id = 0; response = 0; latching = 0; args = [] }; start = 0 }
+
+-- a row is known by its place: some row, the row at place k, one row further
+abbrev pub anyRow : Option ℕ → Bool
+anyRow none = false
+anyRow (some j) = true
+
+abbrev pub thisRow : ℕ → Option ℕ → Bool
+thisRow k none = false
+thisRow k (some j) = eqb j k
+
+abbrev pub further : Option ℕ → Option ℕ
+further none = none
+further (some k) = some (suc k)
+
+-- which row a fault id means: the first that has the id; none where no row has it
+abbrev pub placeNamed : ℕ → List Row → Option ℕ
+placeNamed f [] = none
+placeNamed f (r ∷ rows) = cond (eqb f (r .row .id)) (some 0) (further (placeNamed f rows))
+
 -- the states 0 disabled, 1 enabled, 2 latched, by the table of events
 abbrev pub whenEnabled : ℕ → ℕ
 whenEnabled s = cond (eqb s 2) 2 1
@@ -93,8 +93,8 @@ abbrev pub whenCleared : ℕ → ℕ
 whenCleared s = cond (eqb s 0) 0 1
 
 -- a fault that was answered 10 found the row enabled
-abbrev pub whenFaulted : Row → ℕ
-whenFaulted r = cond (eqb (r .row .latching) 0) 1 2
+abbrev pub whenFaulted : FaultRow → ℕ
+whenFaulted r = cond (eqb (r .latching) 0) 1 2
 
 -- ---- own commands: the id less own base selects
 
@@ -109,15 +109,10 @@ namesFault k = leb 4 k && leb k 6
 abbrev pub faultNamed : List ℕ → ℕ
 faultNamed args = getD args 0 0 * 256 + getD args 1 0
 
--- the answer to a fault, by the rows and the state of each: 34 not in the table, 10 enabled, else 13
-abbrev pub faultAnswer : ℕ → (Row → ℕ) → List Row → ℕ
-faultAnswer f state [] = 34
-faultAnswer f state (r ∷ rows) = cond (eqb f (r .row .id)) (cond (eqb (state r) 1) 10 13) (faultAnswer f state rows)
-
--- the row of a fault id
-abbrev pub rowNamed : ℕ → List Row → FaultRow
-rowNamed f [] = record { id = 0; response = 0; latching = 0; args = [] }
-rowNamed f (r ∷ rows) = cond (eqb f (r .row .id)) (r .row) (rowNamed f rows)
+-- the answer to a fault, by the row that it means and the state of each row: 34 not in the table, 10 enabled, else 13
+abbrev pub faultAnswer : (ℕ → ℕ) → Option ℕ → ℕ
+faultAnswer state none = 34
+faultAnswer state (some k) = cond (eqb (state k) 1) 10 13
 
 -- one more where the test holds
 abbrev pub more : Bool → ℕ → ℕ
@@ -130,6 +125,35 @@ module _ (image : List Record) where
 
   abbrev pub rows : List Row
   rows = map rowOf (ofKind 4 image)
+
+  -- the row at a place, and the place that a fault id means
+  abbrev pub rowHere : ℕ → Row
+  rowHere k = getD rows k noRow
+
+  abbrev pub meantBy : ℕ → Option ℕ
+  meantBy f = placeNamed f rows
+
+  -- ---- what is known of a packet: the judge's refusal of it, or that it is accepted
+
+  abbrev pub refusal : List ℕ → ℕ
+  refusal p = refusalOf p
+
+  abbrev pub accepted : List ℕ → Bool
+  accepted p = eqb (refusal p) 0
+
+  -- ---- the nearest earlier accepted packet, and the ticks since
+
+  abbrev pub nearest : List Event → Option (List ℕ)
+  nearest [] = none
+  nearest (packet p ∷ h) = cond (accepted p) (some p) (nearest h)
+  nearest (tick ∷ h) = nearest h
+  nearest (fault f ∷ h) = nearest h
+
+  abbrev pub ticksSince : List Event → ℕ
+  ticksSince [] = 0
+  ticksSince (packet p ∷ h) = cond (accepted p) 0 (ticksSince h)
+  ticksSince (tick ∷ h) = ticksSince h + 1
+  ticksSince (fault f ∷ h) = ticksSince h
 
   -- ---- arming
 
@@ -162,7 +186,7 @@ module _ (image : List Record) where
   abbrev pub ownAnswer : ℕ → List ℕ → ℕ
   ownAnswer k args =
       cond (eqb (length args) (wanted k))
-      (cond (namesFault k && not (member (faultNamed args) (map faultId (tables .rows)))) 32
+      (cond (namesFault k && not (anyRow (meantBy (faultNamed args)))) 32
       (cond (eqb k 0) 11 12))
       31
 
@@ -176,43 +200,47 @@ module _ (image : List Record) where
   abbrev pub done : ℕ → List Event → List ℕ → Bool
   done k h p = accepted p && (eqb (selects p) k && eqb (packetAnswer h p) 12)
 
-  -- ---- a fault row's state: from its start state through the earlier events that act on it, in their order
+  -- ---- the state of the row at place k: from its start state through the earlier events that act on it, in their order
 
-  -- the enable, disable and clear commands answered 12 that name it, and clear all
-  abbrev pub told : List Event → List ℕ → Row → ℕ → ℕ
-  told h p r s =
-      cond (done 4 h p && eqb (faultNamed (argumentsOf p)) (r .row .id)) (whenEnabled s)
-      (cond (done 5 h p && eqb (faultNamed (argumentsOf p)) (r .row .id)) 0
-      (cond (done 6 h p && eqb (faultNamed (argumentsOf p)) (r .row .id)) (whenCleared s)
+  -- the enable, disable and clear commands answered 12 whose fault id means it, and clear all
+  abbrev pub told : List Event → List ℕ → ℕ → ℕ → ℕ
+  told h p k s =
+      cond (done 4 h p && thisRow k (meantBy (faultNamed (argumentsOf p)))) (whenEnabled s)
+      (cond (done 5 h p && thisRow k (meantBy (faultNamed (argumentsOf p)))) 0
+      (cond (done 6 h p && thisRow k (meantBy (faultNamed (argumentsOf p)))) (whenCleared s)
       (cond (done 7 h p) (whenCleared s)
       s)))
 
-  -- and the faults of its id answered 10
-  abbrev pub stateOf : List Event → Row → ℕ
-  stateOf [] r = r .start
-  stateOf (packet p ∷ h) r = told h p r (stateOf h r)
-  stateOf (tick ∷ h) r = stateOf h r
-  stateOf (fault f ∷ h) r =
-      cond (eqb f (r .row .id) && eqb (faultAnswer f (stateOf h) rows) 10) (whenFaulted r) (stateOf h r)
+  -- and the faults answered 10 whose id means it
+  abbrev pub stateOf : List Event → ℕ → ℕ
+  stateOf [] k = rowHere k .start
+  stateOf (packet p ∷ h) k = told h p k (stateOf h k)
+  stateOf (tick ∷ h) k = stateOf h k
+  stateOf (fault f ∷ h) k =
+      cond (thisRow k (meantBy f) && eqb (faultAnswer (stateOf h) (meantBy f)) 10) (whenFaulted (rowHere k .row)) (stateOf h k)
 
   -- ---- the reply to each event
 
   abbrev pub packetReply : List ℕ → ℕ → Reply
   packetReply p n =
       cond (eqb n 10)
-      (dispatched (tables .ground) (commandId p) (destination (commandId p) (tables .routes)) (argumentsOf p))
-      (named n (commandId p))
+      (dispatchedReply (tables .ground) (commandId p) (destination (commandId p) (tables .routes)) (argumentsOf p))
+      (namedReply n (commandId p))
 
-  abbrev pub faultReply : ℕ → ℕ → Reply
-  faultReply f n =
+  abbrev pub rowMeant : Option ℕ → FaultRow
+  rowMeant none = noRow .row
+  rowMeant (some k) = rowHere k .row
+
+  abbrev pub faultReply : Option ℕ → ℕ → Reply
+  faultReply place n =
       cond (eqb n 10)
-      (dispatched (tables .fault) (rowNamed f rows .response) (destination (rowNamed f rows .response) (tables .routes)) (rowNamed f rows .args))
-      (bare n)
+      (dispatchedReply (tables .fault) (rowMeant place .response) (destination (rowMeant place .response) (tables .routes)) (rowMeant place .args))
+      (bareReply n)
 
   abbrev pub reply : List Event → Event → Reply
-  reply h (packet p) = cond (accepted p) (packetReply p (packetAnswer h p)) (bare (refusalOf p))
-  reply h tick = bare (cond (armed h && not (armed (tick ∷ h))) 15 14)
-  reply h (fault f) = faultReply f (faultAnswer f (stateOf h) rows)
+  reply h (packet p) = cond (accepted p) (packetReply p (packetAnswer h p)) (bareReply (refusal p))
+  reply h tick = bareReply (cond (armed h && not (armed (tick ∷ h))) 15 14)
+  reply h (fault f) = faultReply (meantBy f) (faultAnswer (stateOf h) (meantBy f))
 
   -- the replies to a list of events behind those of h
   abbrev pub replies : List Event → List Event → List Reply

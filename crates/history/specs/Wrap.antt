@@ -7,7 +7,7 @@ use native.Mathlib.Omega.{arith}
 use Rattle.packetrules.specs.Judge.{refusalOf}
 use Rattle.state.specs.declared.types.Counts.{Counts}
 use Rattle.state.specs.Tables.{tablesOf}
-use Rattle.image.specs.Records.{Record, recordsOf}
+use Rattle.records.specs.Records.{Record, recordsOf}
 use Rattle.image.specs.Image.{loadOf}
 use Rattle.history.specs.Plain.{Event, latestFirst, packet, fault, accepted, resets, count, movesR, movesF}
 use Rattle.history.specs.Path.{after}
@@ -36,7 +36,7 @@ module _ (image : List ℕ) (z : loadOf image .answer ≡ 0) where
       ap (λ (c : Counts). c .f) (counters image z (times n (fault f)))
       ∙ rw (count-times records (movesF records) (fault f) (λ h. refl) (λ h. refl) n []) (ap (λ k. k % 65536) (omega arith))
 
-  pub rejected-counted : (p : List ℕ) → accepted p ≡ false → (n : ℕ) → left-by n (packet p) .r ≡ n % 65536
+  pub rejected-counted : (p : List ℕ) → accepted records p ≡ false → (n : ℕ) → left-by n (packet p) .r ≡ n % 65536
   rejected-counted p a n =
       ap (λ (c : Counts). c .r) (counters image z (times n (packet p)))
       ∙ rw (count-times records (movesR records) (packet p) (λ h. simp a) (λ h. simp a) n []) (ap (λ k. k % 65536) (omega arith))

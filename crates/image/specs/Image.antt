@@ -7,9 +7,11 @@ use lib.Dec.{eqb}
 use lib.ListN.{length}
 use Rattle.state.specs.Tables.{empty, configOf, freshRun}
 use Rattle.image.specs.declared.types.Loaded.{Loaded}
-use Rattle.image.specs.Records.{Record, recordsOf}
-pub use Rattle.records.specs.Checks.{ofKind, lastOr, basicsIn, routeIn, protectedIn, rowIn, startIn, lastFrom, lastKind, inOrder, basicsRefusal, routeRefusal, protectedRefusal, faultRowRefusal, byTables}
-unfoldable pub use Rattle.records.specs.Checks.{tablesOfRecords, startsOfRecords, sized, rowRefusal, refusalAfter, recordRefusal}
+use Rattle.records.specs.Records.{Record, recordsOf}
+pub use Rattle.records.specs.Written.{ofKind, routeIn, protectedIn, rowIn, startIn}
+unfoldable pub use Rattle.records.specs.Written.{tablesOfRecords, startsOfRecords}
+pub use Rattle.records.specs.Checks.{lastKind}
+unfoldable pub use Rattle.records.specs.Checks.{refusalAfter, recordRefusal}
 
 -- ---- loading
 

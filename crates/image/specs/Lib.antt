@@ -1,8 +1,7 @@
-pub mod Records
 pub mod Image
-pub mod Parts
 pub mod Stored
 pub mod Held
+pub mod Taking
 pub mod Walk
 pub mod Places
 pub mod Loading

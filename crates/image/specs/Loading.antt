@@ -8,11 +8,11 @@ use lib.ListN.{length}
 use borrow.Author.Tests.{eq-eqb, ne-eqb, eqb-true, eqb-false}
 use Rattle.state.specs.KeepsLaws.{split}
 use Rattle.image.specs.declared.types.Loaded.{Loaded}
-use Rattle.image.specs.Records.{Record, recordsOf}
+use Rattle.records.specs.Records.{Record, recordsOf}
 use Rattle.image.specs.Image.{recordRefusal, refused, loaded, loadAfter, loadOf}
 use Rattle.goodimage.specs.Good.{Good}
-use Rattle.records.specs.Outcome.{Outcome, GoodAfter, AllGood}
-use Rattle.records.specs.OutcomeLaws.{outcome, outcome-only, good-zero, zero-good}
+use Rattle.records.specs.RecordOutcome.{Outcome, GoodAfter, AllGood}
+use Rattle.records.specs.RecordOutcomeLaws.{outcome, outcome-only, good-zero, zero-good}
 use Rattle.goodimage.specs.GoodImage.{no-records, good-image, image-good, good-not-empty}
 use Rattle.image.specs.Places.{bytesOf, none, begins-behind}
 

@@ -8,8 +8,8 @@ use native.Mathlib.Omega.{arith}
 use lib.Dec.{leb}
 use lib.ListN.{length}
 use Rattle.state.specs.KeepsLaws.{split}
-use Rattle.image.specs.Records.{le16, Record, recordAt, andThen, recordsFrom, recordsOf}
-use Rattle.records.specs.Outcome.{AllGood}
+use Rattle.records.specs.Records.{le16, Record, recordAt, andThen, recordsFrom, recordsOf}
+use Rattle.records.specs.RecordOutcome.{AllGood}
 
 -- the bytes of records
 abbrev pub bytesOf : List Record → ℕ

@@ -14,7 +14,7 @@ use Rattle.state.specs.KeepsLaws.{keeps, kept}
 use Rattle.state.specs.Sized.{LentState}
 use Rattle.state.specs.ArrayLaws.{padded-length, tables-back, rules-few, arrays-sized, arrays-keep}
 use Rattle.image.specs.declared.types.Loaded.{Loaded}
-use Rattle.image.specs.Records.{recordsOf}
+use Rattle.records.specs.Records.{recordsOf}
 use Rattle.image.specs.Image.{tablesOfRecords, startsOfRecords, refused, loaded, loadOf}
 use Rattle.goodimage.specs.Good.{Good}
 use Rattle.goodimage.specs.Zero.{zero-breaks}

@@ -1,32 +1,35 @@
 // Loading: one pass over the image, record by record, into arrays that stay where they are.
 ghost use mathlib.Core.Path.{_≡_};
-ghost use Prim.Native.Nat.{_+_, _≤_};
-ghost use lib.ListN.{length};
-ghost use Rattle.wire.specs.Put.{putAt};
-ghost use Rattle.state.specs.Tables.{empty, configOf};
+ghost use Rattle.state.specs.Tables.{empty, configFrom, configOf, firstRun};
 ghost use Rattle.image.specs.Image.{refused, loadOf};
-ghost use Rattle.image.specs.Parts.{runWith};
+ghost use Rattle.image.specs.Walk.{noNumbers, Blank, Reads};
+use crate::take;
 use crate::types::Loaded;
 use records::record;
-use state::types::Arm;
 use state::types::Config;
-use state::types::Counts;
 use state::types::Numbers;
-use state::types::Run;
+use state::types::first_run;
+
+// No sources, no rows.
+fn no_numbers() -> Numbers
+    ensures { λ r. ⌜ r ≡ noNumbers ⌝ }
+{
+    Numbers {
+        ground: 0,
+        fault: 0,
+        base: 0,
+        nroutes: 0,
+        nprotected: 0,
+        nrows: 0,
+    }
+}
 
 // All zero, all tables empty.
 fn blank() -> Config
     ensures { λ r. ⌜ r ≡ configOf empty ⌝ }
 {
     Config {
-        numbers: Numbers {
-            ground: 0,
-            fault: 0,
-            base: 0,
-            nroutes: 0,
-            nprotected: 0,
-            nrows: 0,
-        },
+        numbers: no_numbers(),
         routeids: [0; 128],
         dests: [0; 128],
         protected: [0; 32],
@@ -38,28 +41,6 @@ fn blank() -> Config
     }
 }
 
-// Unarmed, zero counters, and these fault states.
-fn fresh(states: [u8; 32]) -> Run
-    ensures { λ r. ⌜ r ≡ runWith states ⌝ }
-{
-    Run {
-        arm: Arm {
-            armed: false,
-            ticks: 0,
-        },
-        counts: Counts {
-            a: 0,
-            r: 0,
-            d: 0,
-            p: 0,
-            u: 0,
-            i: 0,
-            f: 0,
-        },
-        states,
-    }
-}
-
 // A refusal and its offset: the state is all zero.
 fn refusal(n: u8, at: usize) -> Loaded
     ensures { λ r. ⌜ r ≡ refused n at ⌝ }
@@ -68,118 +49,138 @@ fn refusal(n: u8, at: usize) -> Loaded
         answer: n,
         offset: at,
         config: blank(),
-        run: fresh([0; 32]),
+        run: first_run([0; 32]),
     }
 }
 
-// The argument bytes of a row, at its place. A function of its own, since a field can be lent as an array but not as a slice.
-fn put_args(args: &mut [u8; 512], at: usize, s: &[u8])
-    requires { ⌜ (length (now args) ≡ 512) × (at + length (now s) ≤ 512) ⌝ }
-    ensures { λ _. ⌜ now (args .exit) ≡ putAt (now (args .entry)) at (now (s .entry)) ⌝ }
+// A good image: offset 0, and its state.
+fn loaded(config: Config, states: [u8; 32]) -> Loaded
+    ensures { λ r. ⌜ r ≡ record { answer = 0; offset = 0; config = config; run = firstRun states } ⌝ }
 {
-    blocks::run(args, at, s);
+    Loaded {
+        answer: 0,
+        offset: 0,
+        config,
+        run: first_run(states),
+    }
+}
+
+// What reading the records came to: 0, or the refusal and the offset of the first bad one; and the numbers of the configuration.
+struct Reading {
+    refusal: u8,
+    offset: usize,
+    numbers: Numbers,
+}
+
+// Where it stopped.
+fn stopped(refusal: u8, offset: usize, numbers: Numbers) -> Reading
+    ensures { λ r. ⌜ r ≡ record { refusal = refusal; offset = offset; numbers = numbers } ⌝ }
+{
+    Reading {
+        refusal,
+        offset,
+        numbers,
+    }
+}
+
+// Reads the records of an image into columns that are all zero.
+fn read_records(
+    image: &[u8],
+    routeids: &mut [u16; 128],
+    dests: &mut [u8; 128],
+    protected: &mut [u16; 32],
+    faultids: &mut [u16; 32],
+    responses: &mut [u16; 32],
+    latching: &mut [u8; 32],
+    argcounts: &mut [u8; 32],
+    args: &mut [u8; 512],
+    states: &mut [u8; 32],
+) -> Reading
+    requires { ⌜ Blank
+        (configFrom noNumbers (now routeids) (now dests) (now protected) (now faultids) (now responses) (now latching) (now argcounts) (now args))
+        (now states) ⌝ }
+    ensures { λ r. ⌜ Reads (now (image .entry)) (r .refusal) (r .offset)
+        (configFrom (r .numbers) (now (routeids .exit)) (now (dests .exit)) (now (protected .exit)) (now (faultids .exit))
+        (now (responses .exit)) (now (latching .exit)) (now (argcounts .exit)) (now (args .exit))) (now (states .exit)) ⌝ }
+{
+    let mut numbers = no_numbers();
+    if image.len() == 0 {
+        return stopped(5, 0, numbers);
+    }
+    let mut last: u16 = 0;
+    let mut at = 0;
+    while at < image.len() {
+        let found = record::found_at(image, at);
+        if found.end == 0 {
+            return stopped(1, at, numbers);
+        }
+        let end = found.end;
+        let kind = found.kind;
+        let from = at + 4;
+        let taken = take::take_record(
+            last,
+            kind,
+            &image[from..end],
+            numbers,
+            routeids,
+            dests,
+            protected,
+            faultids,
+            responses,
+            latching,
+            argcounts,
+            args,
+            states,
+        );
+        if taken.refusal != 0 {
+            return stopped(taken.refusal, at, numbers);
+        }
+        numbers = taken.numbers;
+        last = kind;
+        at = end;
+    }
+    stopped(0, 0, numbers)
 }
 
 // Loads an image: 0 and its state, or the refusal and the offset of the first bad record.
 pub fn load(image: &[u8]) -> Loaded
     ensures { λ r. ⌜ r ≡ loadOf (now (image .entry)) ⌝ }
 {
-    if image.len() == 0 {
-        return refusal(5, 0);
-    }
-    let mut config = blank();
+    let mut routeids: [u16; 128] = [0; 128];
+    let mut dests: [u8; 128] = [0; 128];
+    let mut protected: [u16; 32] = [0; 32];
+    let mut faultids: [u16; 32] = [0; 32];
+    let mut responses: [u16; 32] = [0; 32];
+    let mut latching: [u8; 32] = [0; 32];
+    let mut argcounts: [u8; 32] = [0; 32];
+    let mut args: [u8; 512] = [0; 512];
     let mut states: [u8; 32] = [0; 32];
-    let mut last: u16 = 0;
-    let mut at = 0;
-    while at < image.len() {
-        let end = record::end_of(image, at);
-        if end == 0 {
-            return refusal(1, at);
-        }
-        let kind = record::word_at(image, at + 2);
-        let from = at + 4;
-        let body = &image[from..end];
-        // Each kind has an arm of its own, which ends with its own turn of the cursor: the compiler keeps them apart.
-        if kind < 1 {
-            return refusal(2, at);
-        }
-        if kind < 2 {
-            let refused = recordcheck::basics_refusal(last, body);
-            if refused != 0 {
-                return refusal(refused, at);
-            }
-            config.numbers.ground = record::word_at(body, 0);
-            config.numbers.fault = record::word_at(body, 2);
-            config.numbers.base = record::word_at(body, 4);
-            last = kind;
-            at = end;
-        } else if kind < 3 {
-            let n = config.numbers.nroutes;
-            let refused = recordcheck::route_refusal(
-                last,
-                body,
-                config.numbers.base,
-                &config.routeids,
-                n,
-            );
-            if refused != 0 {
-                return refusal(refused, at);
-            }
-            config.routeids[n] = record::word_at(body, 0);
-            config.dests[n] = body[2];
-            config.numbers.nroutes = n + 1;
-            last = kind;
-            at = end;
-        } else if kind < 4 {
-            let n = config.numbers.nroutes;
-            let m = config.numbers.nprotected;
-            let refused = recordcheck::protected_refusal(
-                last,
-                body,
-                config.numbers.base,
-                &config.routeids,
-                n,
-                &config.protected,
-                m,
-            );
-            if refused != 0 {
-                return refusal(refused, at);
-            }
-            config.protected[m] = record::word_at(body, 0);
-            config.numbers.nprotected = m + 1;
-            last = kind;
-            at = end;
-        } else if kind < 5 {
-            let n = config.numbers.nroutes;
-            let k = config.numbers.nrows;
-            let refused = recordcheck::fault_row_refusal(
-                last,
-                body,
-                &config.routeids,
-                n,
-                &config.faultids,
-                k,
-            );
-            if refused != 0 {
-                return refusal(refused, at);
-            }
-            config.faultids[k] = record::word_at(body, 0);
-            config.responses[k] = record::word_at(body, 2);
-            config.latching[k] = body[5];
-            config.argcounts[k] = body[6];
-            put_args(&mut config.args, k * 16, &body[7..]);
-            states[k] = body[4];
-            config.numbers.nrows = k + 1;
-            last = kind;
-            at = end;
-        } else {
-            return refusal(2, at);
-        }
+    let read = read_records(
+        image,
+        &mut routeids,
+        &mut dests,
+        &mut protected,
+        &mut faultids,
+        &mut responses,
+        &mut latching,
+        &mut argcounts,
+        &mut args,
+        &mut states,
+    );
+    if read.refusal != 0 {
+        return refusal(read.refusal, read.offset);
     }
-    Loaded {
-        answer: 0,
-        offset: 0,
-        config,
-        run: fresh(states),
-    }
+    let numbers = read.numbers;
+    let config = Config {
+        numbers,
+        routeids,
+        dests,
+        protected,
+        faultids,
+        responses,
+        latching,
+        argcounts,
+        args,
+    };
+    loaded(config, states)
 }

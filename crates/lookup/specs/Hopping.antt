@@ -2,7 +2,7 @@
 -- rise. The column is the first n of an array.
 use mathlib.Core.Path.{_≡_, refl, sym, ap, _∙_}
 use mathlib.Core.List.{List}
-use Prim.Native.Nat.{ℕ, zero, suc, _+_, _-_, _/_, _<_, _≤_}
+use Prim.Native.Nat.{ℕ, zero, suc, _-_, _/_, _<_, _≤_}
 use native.Mathlib.Omega.{arith}
 use lib.Dec.{ltb}
 use lib.ListN.{length, getD, take}
@@ -10,10 +10,10 @@ use lib.Seq.{getD-take, length-take-le}
 use borrow.Author.Tests.{lt-ltb, le-ltb, ltb-true, ltb-false, le-leb, lt-leb, eq-eqb, ne-eqb}
 use Rattle.state.specs.Rules.{member}
 use Rattle.state.specs.KeepsLaws.{split}
-use Rattle.state.specs.Lookup.{placeIn, Column}
-use Rattle.state.specs.LookupLaws.{below-member}
-use Rattle.lookup.specs.Search.{twos, half, hop, hops, found, sought}
-use Rattle.lookup.specs.SearchLaws.{twos-positive, rising-climbs, sought-place, found-within}
+use Rattle.state.specs.Lookup.{placeIn, NeverFalling, Slots, Column}
+use Rattle.state.specs.LookupLaws.{count, below-member}
+use Rattle.lookup.specs.Search.{twos, half, hop, hops, sought}
+use Rattle.lookup.specs.SearchLaws.{twos-positive, rising-never-falls, sought-place, found-within}
 
 -- the hops that are left, from here on, lead where all of them do
 pub record Left (ids : List ℕ) (n id e at step : ℕ) : Type 0 where
@@ -77,8 +77,8 @@ module _ {ids : List ℕ} {n id first at next step : ℕ} (h : Hopped ids n id f
 
   -- no hop is left
   module _ (z : step ≤ 0) (e : ℕ) (q : first ≡ half e) where
-    count : length (take n ids) ≡ n
-    count = length-take-le n ids (h .fits)
+    counted : length (take n ids) ≡ n
+    counted = length-take-le n ids (h .fits)
 
     ended : hops id (take n ids) (length (take n ids)) e ≡ at
     ended = let r = h .rest e q in go (r .left) (r .step-is) (r .ends)
@@ -89,17 +89,17 @@ module _ {ids : List ℕ} {n id first at next step : ℕ} (h : Hopped ids n id f
 
     -- behind the ids no id stands
     behind : n ≤ at → n ≡ sought e id (take n ids)
-    behind l = rw (ended, count) (simp (le-ltb at n l))
+    behind l = rw (ended, counted) (simp (le-ltb at n l))
 
     module _ (l : at < n) where
       next-at : next ≡ getD (take n ids) at 0
       next-at = h .next-is l ∙ sym (getD-take n ids at 0 l)
 
       stands : next ≡ id → at ≡ sought e id (take n ids)
-      stands b = rw (ended, count, ← next-at) (simp (lt-ltb at n l, eq-eqb id next (sym b)))
+      stands b = rw (ended, counted, ← next-at) (simp (lt-ltb at n l, eq-eqb id next (sym b)))
 
       stands-not : (next ≡ id → ⊥) → n ≡ sought e id (take n ids)
-      stands-not b = rw (ended, count, ← next-at) (simp (lt-ltb at n l, ne-eqb id next (λ p. b (sym p))))
+      stands-not b = rw (ended, counted, ← next-at) (simp (lt-ltb at n l, ne-eqb id next (λ p. b (sym p))))
 
     pub here : next ≡ id → at ≡ sought e id (take n ids)
     here b =
@@ -113,15 +113,19 @@ pub half-below : (e : ℕ) → half e < twos e
 half-below zero = omega arith
 half-below (suc e) = omega (arith, twos-positive e)
 
--- ---- what was found, where the ids rise
+-- ---- what was found, where the ids never fall, and so where they rise
 
-module _ {limit : ℕ} {ids : List ℕ} {n : ℕ} (c : Column limit ids n) (id e : ℕ) {r : ℕ} (h : r ≡ sought e id (take n ids)) (enough : limit < twos e) where
-  pub is-place : (r ≡ placeIn id (take n ids)) × (r ≤ n)
-  is-place =
-      let k = length-take-le n ids (omega (arith, c .long, c .within)) in (
-        h ∙ sought-place e id (take n ids) (rising-climbs 0 (take n ids) (c .rise)) (omega (arith, k, c .within)),
+module _ {limit : ℕ} {ids : List ℕ} {n : ℕ} (id e : ℕ) {r : ℕ} (h : r ≡ sought e id (take n ids)) (enough : limit < twos e) where
+  place-in : Slots limit ids n → NeverFalling 0 (take n ids) → (r ≡ placeIn id (take n ids)) × (r ≤ n)
+  place-in s o =
+      let k = count s in (
+        h ∙ sought-place e id (take n ids) o (omega (arith, k, s .within)),
         omega (arith, h, k, found-within id (take n ids) (hops id (take n ids) (length (take n ids)) e)),
       )
 
-  pub is-there : ltb r n ≡ member id (take n ids)
-  is-there = below-member c id r (is-place .0)
+  module _ (c : Column limit ids n) where
+    pub is-place : (r ≡ placeIn id (take n ids)) × (r ≤ n)
+    is-place = place-in (c .slots) (rising-never-falls 0 (take n ids) (c .rise))
+
+    pub is-there : ltb r n ≡ member id (take n ids)
+    is-there = below-member (c .slots) id r (is-place .0)

@@ -2,7 +2,7 @@
 -- search looks at; and all three for tables of 1, 4, 16, 64 and 128 rows.
 use mathlib.Core.Path.{_≡_, refl}
 use mathlib.Core.List.{List, [], _∷_, map}
-use Prim.Native.Nat.{ℕ, zero, suc, _+_, _*_}
+use Prim.Native.Nat.{ℕ, suc, _+_, _*_}
 use lib.ListN.{length, take}
 use Rattle.state.specs.Tables.{listed}
 use Rattle.state.specs.Lookup.{placeIn}

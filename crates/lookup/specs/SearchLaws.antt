@@ -9,11 +9,11 @@ use Prim.Native.Nat.{ℕ, zero, suc, _+_, _-_, _<_, _≤_}
 use native.Mathlib.Omega.{arith}
 use lib.Dec.{leb, ltb, eqb, leb·suc-suc}
 use lib.ListN.{length, getD, length-append}
-use borrow.Author.Tests.{lt-ltb, le-ltb, ltb-true, ltb-false, le-leb, lt-leb, leb-true, leb-false, ne-eqb, eqb-false}
+use borrow.Author.Tests.{lt-ltb, ltb-true, ltb-false, le-leb, lt-leb, leb-true, leb-false, ne-eqb, eqb-false}
 use Rattle.state.specs.Keeps.{Rising, Each}
 use Rattle.state.specs.KeepsLaws.{split}
 use Rattle.state.specs.ArrayLaws.{each-map}
-use Rattle.state.specs.Lookup.{placeIn}
+use Rattle.state.specs.Lookup.{placeIn, NeverFalling}
 use Rattle.lookup.specs.Search.{firstNotBelow, twos, leads, hop, hops, found, sought, look, looksFrom, looks}
 
 pub twos-positive : (e : ℕ) → 0 < twos e
@@ -162,26 +162,21 @@ same-looks e id xs ys n h =
 
 -- ---- of a column that never falls, the hops end at the first id not below
 
--- no id is below the one before, the first at least low
-abbrev pub Climbing : ℕ → List ℕ → Type 0
-Climbing low [] = Unit {0}
-Climbing low (x ∷ xs) = (low ≤ x) × Climbing x xs
+never-falls-from : (low high : ℕ) (xs : List ℕ) → low ≤ high → NeverFalling high xs → NeverFalling low xs
+never-falls-from low high [] l h = tt
+never-falls-from low high (x ∷ xs) l h = (omega (arith, h .0), h .1)
 
-climbs-from : (low high : ℕ) (xs : List ℕ) → low ≤ high → Climbing high xs → Climbing low xs
-climbs-from low high [] l h = tt
-climbs-from low high (x ∷ xs) l h = (omega (arith, h .0), h .1)
+pub rising-never-falls : (low : ℕ) (xs : List ℕ) → Rising low xs → NeverFalling low xs
+rising-never-falls low [] h = tt
+rising-never-falls low (x ∷ xs) h = (h .0, never-falls-from x (suc x) xs (omega arith) (rising-never-falls (suc x) xs (h .1)))
 
-pub rising-climbs : (low : ℕ) (xs : List ℕ) → Rising low xs → Climbing low xs
-rising-climbs low [] h = tt
-rising-climbs low (x ∷ xs) h = (h .0, climbs-from x (suc x) xs (omega arith) (rising-climbs (suc x) xs (h .1)))
-
-above-low : (low : ℕ) (xs : List ℕ) → Climbing low xs → (k : ℕ) → k < length xs → low ≤ getD xs k 0
+above-low : (low : ℕ) (xs : List ℕ) → NeverFalling low xs → (k : ℕ) → k < length xs → low ≤ getD xs k 0
 above-low low [] h k l = absurd (omega arith)
 above-low low (x ∷ xs) h zero l = h .0
 above-low low (x ∷ xs) h (suc k) l = omega (arith, h .0, above-low x xs (h .1) k (omega arith))
 
 -- the ids not below are those from the first of them on
-from-first : (id low : ℕ) (xs : List ℕ) → Climbing low xs → (k : ℕ) → k < length xs → leb id (getD xs k 0) ≡ leb (firstNotBelow id xs) k
+from-first : (id low : ℕ) (xs : List ℕ) → NeverFalling low xs → (k : ℕ) → k < length xs → leb id (getD xs k 0) ≡ leb (firstNotBelow id xs) k
 from-first id low [] h k l = absurd (omega arith)
 from-first id low (x ∷ xs) h zero l =
     split (leb id x ≡ leb (firstNotBelow id (x ∷ xs)) 0) (ltb x id)
@@ -199,7 +194,7 @@ first-within id [] = omega arith
 first-within id (x ∷ xs) =
     split (firstNotBelow id (x ∷ xs) ≤ length (x ∷ xs)) (ltb x id) (λ e. simp e (omega (arith, first-within id xs))) (λ e. simp e (omega arith))
 
-module _ (id : ℕ) (xs : List ℕ) (c : Climbing 0 xs) where
+module _ (id : ℕ) (xs : List ℕ) (c : NeverFalling 0 xs) where
   abbrev first : ℕ
   first = firstNotBelow id xs
 
@@ -242,11 +237,11 @@ found-within id xs k =
     (λ e. simp e (omega arith))
 
 -- an id below all is nowhere
-none-below : (id low : ℕ) (xs : List ℕ) → Climbing low xs → id < low → placeIn id xs ≡ length xs
+none-below : (id low : ℕ) (xs : List ℕ) → NeverFalling low xs → id < low → placeIn id xs ≡ length xs
 none-below id low [] h l = refl
 none-below id low (x ∷ xs) h l = simp (ne-eqb id x (λ e. omega (arith, h .0)), none-below id x xs (h .1) (omega (arith, h .0)))
 
-place-first : (id low : ℕ) (xs : List ℕ) → Climbing low xs → found id xs (firstNotBelow id xs) ≡ placeIn id xs
+place-first : (id low : ℕ) (xs : List ℕ) → NeverFalling low xs → found id xs (firstNotBelow id xs) ≡ placeIn id xs
 place-first id low [] h = refl
 place-first id low (x ∷ xs) h =
     split (found id (x ∷ xs) (firstNotBelow id (x ∷ xs)) ≡ placeIn id (x ∷ xs)) (ltb x id)
@@ -258,17 +253,17 @@ place-first id low (x ∷ xs) h =
     (λ q. simp (q, none-below id x xs (h .1) (omega (arith, eqb-false id x q))))))
 
 -- enough hops find the id's place, as a walk over all ids finds it
-pub sought-place : (e id : ℕ) (xs : List ℕ) → Climbing 0 xs → length xs < twos e → sought e id xs ≡ placeIn id xs
+pub sought-place : (e id : ℕ) (xs : List ℕ) → NeverFalling 0 xs → length xs < twos e → sought e id xs ≡ placeIn id xs
 sought-place e id xs c l = rw (ends-first id xs c e l) (place-first id 0 xs c)
 
 -- so in columns that never fall, their number and the ids at the places looked at alone say whether an id is there, and where
-pub same-place : (e id : ℕ) (xs ys : List ℕ) → Climbing 0 xs × Climbing 0 ys → (length xs ≡ length ys) × (length xs < twos e)
+pub same-place : (e id : ℕ) (xs ys : List ℕ) → NeverFalling 0 xs × NeverFalling 0 ys → (length xs ≡ length ys) × (length xs < twos e)
     → Each (Same xs ys) (looks e id xs) → placeIn id xs ≡ placeIn id ys
 same-place e id xs ys (c, d) (n, l) h =
     sym (sought-place e id xs c l) ∙ same-looks e id xs ys n h .0 ∙ sought-place e id ys d (omega arith)
 
 -- and the place of an id that is there is that of the first id not below it
-pub place-is-first : (id : ℕ) (xs : List ℕ) → Climbing 0 xs → placeIn id xs < length xs → placeIn id xs ≡ firstNotBelow id xs
+pub place-is-first : (id : ℕ) (xs : List ℕ) → NeverFalling 0 xs → placeIn id xs < length xs → placeIn id xs ≡ firstNotBelow id xs
 place-is-first id xs c l =
     split (placeIn id xs ≡ firstNotBelow id xs) (ltb (firstNotBelow id xs) (length xs) && eqb id (getD xs (firstNotBelow id xs) 0))
     (λ q. sym (place-first id 0 xs c) ∙ simp q)

@@ -5,7 +5,7 @@
 // search that goes up from the first row the first look is at a place that the compiler knows, and it was made whether or not the
 // table reached so far.
 ghost use mathlib.Core.Path.{_≡_};
-ghost use Prim.Native.Nat.{ℕ, _<_, _≤_};
+ghost use Prim.Native.Nat.{ℕ, _≤_};
 ghost use lib.ListN.{length, take};
 ghost use Rattle.state.specs.Rules.{member};
 ghost use Rattle.state.specs.Lookup.{placeIn, Column};

@@ -8,9 +8,11 @@ use Rattle.wire.specs.Xor.{xorAll}
 use Rattle.packetrules.specs.Judge.{refusalOf, argumentsOf}
 use Rattle.state.specs.Rules.{own, basicsOk, routeOk, protectedOk, rowOk, startOk}
 use Rattle.records.specs.Records.{recordAt, recordsOf}
-use Rattle.records.specs.Checks.{tablesOfRecords, startsOfRecords, sized, rowRefusal, refusalAfter, recordRefusal}
+use Rattle.records.specs.Written.{tablesOfRecords, startsOfRecords}
+use Rattle.records.specs.Kinds.{rowSized}
+use Rattle.records.specs.Checks.{refusalBy, refusalAfter, recordRefusal}
 use Rattle.image.specs.Image.{loadOf}
-use Rattle.history.specs.Plain.{Event, packet, tick, fault, Reply, replies}
+use Rattle.history.specs.Plain.{Event, packet, tick, fault, Reply, replies, bareReply}
 
 -- ---- configuration C and its packets
 
@@ -60,7 +62,7 @@ lastReply x [] = x
 lastReply x (y ∷ ys) = lastReply y ys
 
 abbrev nothing : Reply
-nothing = record { answer = 0; id = 0; dest = 0; written = 0; bytes = [] }
+nothing = bareReply 0
 
 abbrev pub said : Asked → List ℕ
 said (loading image) = loadOf image .answer ∷ loadOf image .offset ∷ []
@@ -104,5 +106,5 @@ table =
     ∷ []
 
 pub marked : map (λ c. said (c .asked)) table ≡ map (λ c. c .wanted) table
-unfolding xorAll refusalOf argumentsOf own basicsOk routeOk protectedOk rowOk startOk recordAt tablesOfRecords startsOfRecords sized rowRefusal refusalAfter recordRefusal loadOf
+unfolding xorAll refusalOf argumentsOf own basicsOk routeOk protectedOk rowOk startOk recordAt tablesOfRecords startsOfRecords rowSized refusalBy refusalAfter recordRefusal loadOf
 marked = refl

@@ -4,3 +4,4 @@ pub mod Laws
 pub mod Layout
 pub mod Outcome
 pub mod Parts
+pub mod Rejection

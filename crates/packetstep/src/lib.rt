@@ -7,7 +7,6 @@ use arming::after_packet;
 use state::types::Arm;
 use state::types::Numbers;
 use steprules::types;
-use steprules::types::Answer;
 use steprules::types::Moved;
 ghost use mathlib.Core.List.{List};
 ghost use Prim.Native.Nat.{ℕ, _≤_, _<_};
@@ -15,6 +14,7 @@ ghost use lib.ListN.{length, take};
 ghost use mathlib.Core.Path.{_≡_};
 ghost use Rattle.state.specs.Tables.{configFrom};
 ghost use Rattle.state.specs.Lookup.{Column};
+ghost use Rattle.dispatch.specs.Dispatch.{stepRoom};
 ghost use Rattle.answers.specs.Own.{ruleOf};
 ghost use Rattle.answers.specs.Answers.{blocked};
 ghost use Rattle.answers.specs.AnswerLaws.{Lent};
@@ -24,27 +24,14 @@ ghost use Rattle.steprules.specs.Moved.{StatesLent, quietly, rejectedBy, OwnMov
 fn rejected(arm: Arm, n: u8) -> Moved
     ensures { λ r. ⌜ r ≡ rejectedBy arm n ⌝ }
 {
-    Moved {
-        arm: arm,
-        reset: false,
-        answer: types::bare(n),
-    }
+    types::moved_of(arm, false, types::bare(n))
 }
 
 // An accepted packet that is not sent on.
 fn quiet(arm: Arm, n: u8, id: u16, args: &[u8], reset: bool) -> Moved
     ensures { λ r. ⌜ r ≡ quietly n id (now (args .entry)) reset ⌝ }
 {
-    Moved {
-        arm: after_packet(arm, n, args),
-        reset: reset,
-        answer: Answer {
-            answer: n,
-            id: id,
-            dest: 0,
-            written: 0,
-        },
-    }
+    types::moved_of(after_packet(arm, n, args), reset, types::named(n, id))
 }
 
 // Protected and unarmed.
@@ -133,9 +120,10 @@ pub fn inner_packet<'a>(
     packet: &[u8],
     out: &mut [u8],
 ) -> Moved
-    requires { ⌜ Lent numbers (now routeids) (now dests) (now protected) (now faultids) × StatesLent (now states) × (260 ≤ length (now out)) ⌝ }
+    requires { ⌜ Lent numbers (now routeids) (now dests) (now protected) (now faultids) × StatesLent (now states) × (stepRoom ≤ length (now out)) ⌝ }
     ensures { λ r. ⌜ ((responses latching argcounts args : List ℕ)
-        → PacketMoves (configFrom numbers (now (routeids .entry)) (now (dests .entry)) (now (protected .entry)) (now (faultids .entry)) responses latching argcounts args)
+        → PacketMoves
+        (configFrom numbers (now (routeids .entry)) (now (dests .entry)) (now (protected .entry)) (now (faultids .entry)) responses latching argcounts args)
         arm (now (states .entry)) (now (packet .entry)) (now (out .entry)) r (now (states .exit)) (now (out .exit))) ⌝ }
 {
     let refusal = packet::judge::refusal(packet);
@@ -165,14 +153,6 @@ pub fn inner_packet<'a>(
         return quiet(arm, 33, id, args, false);
     }
     let written = dispatch::write(out, numbers.ground, id, args);
-    Moved {
-        arm: after_packet(arm, 10, args),
-        reset: false,
-        answer: Answer {
-            answer: 10,
-            id: id,
-            dest: dests[at],
-            written: written,
-        },
-    }
+    let answer = types::dispatched(id, dests[at], written);
+    types::moved_of(after_packet(arm, 10, args), false, answer)
 }

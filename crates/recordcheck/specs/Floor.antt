@@ -1,25 +1,12 @@
--- Laws of columns of ids: how many are in use, and the floor behind the last.
+-- The floor behind a column's ids: what may follow the last of them.
 use mathlib.Core.Path.{_≡_, refl}
 use mathlib.Core.List.{List, [], _∷_, _++_}
 use Prim.Native.Nat.{ℕ, zero, suc, _-_, _≤_}
 use native.Mathlib.Omega.{arith}
 use lib.Dec.{leb, ltb}
 use lib.ListN.{length, getD, take}
-use lib.Seq.{length-take-le, take-suc}
-use Rattle.state.specs.Lookup.{Column}
+use lib.Seq.{take-suc}
 use Rattle.state.specs.Rules.{floorFrom, floor}
-use Rattle.records.specs.Parts.{Slots}
-
-module _ {limit : ℕ} {ids : List ℕ} {n : ℕ} (c : Slots limit ids n) where
-  -- as many are in use as the column says
-  pub count : length (take n ids) ≡ n
-  count = length-take-le n ids (omega (arith, c .long, c .within))
-
--- columns of which it is known too that they rise
-pub slots : {limit : ℕ} {ids : List ℕ} {n : ℕ} → Column limit ids n → Slots limit ids n
-slots c = record { long = c .long; within = c .within }
-
--- ---- the floor
 
 floor-snoc : (low : ℕ) (xs : List ℕ) (x : ℕ) → floorFrom low (xs ++ x ∷ []) ≡ suc x
 floor-snoc low [] x = refl

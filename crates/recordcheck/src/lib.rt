@@ -3,17 +3,18 @@
 // at, in arrays that are lent, so that nothing is copied; and only those that the kind has to know of.
 ghost use mathlib.Core.Path.{_≡_};
 ghost use mathlib.Core.Bool.{_&&_};
-ghost use mathlib.Core.List.{List};
-ghost use Prim.Native.Nat.{ℕ, _≤_};
+ghost use mathlib.Core.List.{[]};
+ghost use Prim.Native.Nat.{_≤_};
 ghost use lib.Dec.{leb};
 ghost use lib.ListN.{length, take};
 ghost use Rattle.wire.specs.Check.{check};
-ghost use Rattle.state.specs.Tables.{Tables};
-ghost use Rattle.state.specs.Lookup.{Column};
+ghost use Rattle.state.specs.Tables.{Tables, routed};
+ghost use Rattle.state.specs.Lookup.{Slots, Column};
 ghost use Rattle.state.specs.Rules.{member, floor, startOk, rowOk};
 ghost use Rattle.state.specs.Test.{protectedPasses};
-ghost use Rattle.records.specs.Checks.{sized, refusalAfter};
-ghost use Rattle.records.specs.Parts.{Slots, Holds, placeRefusal};
+ghost use Rattle.records.specs.Kinds.{rowSized};
+ghost use Rattle.records.specs.Checks.{refusalAfter};
+ghost use Rattle.records.specs.RecordParts.{Holds, placeRefusal};
 use lookup::holds;
 use records::record::word_at;
 use state::rules;
@@ -34,7 +35,7 @@ fn is_above(ids: &[u16], n: usize, id: u16) -> bool
 // A row behind n others, of which there may be so many: 4 by the order of kinds or of ids, 6 where there is no room, else 0.
 fn place_refusal(last: u16, kind: u16, limit: usize, ids: &[u16], n: usize, id: u16) -> u8
     requires { ⌜ (2 ≤ kind) × (n ≤ length (now ids)) ⌝ }
-    ensures { λ r. ⌜ r ≡ placeRefusal last kind limit (floor (take n (now (ids .entry)))) n id ⌝ }
+    ensures { λ r. ⌜ r ≡ placeRefusal last kind limit (take n (now (ids .entry))) id ⌝ }
 {
     if last == 0 {
         return 4;
@@ -65,7 +66,7 @@ fn rule_refusal(ok: bool) -> u8
 
 // The sources differ, and own base fits.
 pub fn basics_refusal(last: u16, body: &[u8]) -> u8
-    ensures { λ r. ⌜ ((t : Tables) → r ≡ refusalAfter last t 1 (now (body .entry))) ⌝ }
+    ensures { λ r. ⌜ ((t : Tables) → r ≡ refusalAfter last [] t 1 (now (body .entry))) ⌝ }
 {
     if body.len() != 6 {
         return 3;
@@ -85,9 +86,7 @@ pub fn basics_refusal(last: u16, body: &[u8]) -> u8
 // internal: for the loader, whose arrays are so.
 pub fn route_refusal<'a>(last: u16, body: &'a [u8], base: u16, ids: &'a [u16; 128], n: usize) -> u8
     requires { ⌜ Slots 128 (now ids) n ⌝ }
-    ensures { λ r. ⌜ ((t : Tables) (protected faults : List ℕ)
-        → Holds t base (take n (now (ids .entry))) protected faults
-        → r ≡ refusalAfter last t 2 (now (body .entry))) ⌝ }
+    ensures { λ r. ⌜ ((t : Tables) → base ≡ t .base → r ≡ refusalAfter last (take n (now (ids .entry))) t 2 (now (body .entry))) ⌝ }
 {
     if body.len() != 3 {
         return 3;
@@ -128,9 +127,9 @@ pub fn protected_refusal<'a>(
     m: usize,
 ) -> u8
     requires { ⌜ Column 128 (now ids) n × Slots 32 (now protected) m ⌝ }
-    ensures { λ r. ⌜ ((t : Tables) (faults : List ℕ)
-        → Holds t base (take n (now (ids .entry))) (take m (now (protected .entry))) faults
-        → r ≡ refusalAfter last t 3 (now (body .entry))) ⌝ }
+    ensures { λ r. ⌜ ((t : Tables)
+        → Holds t base (take n (now (ids .entry)))
+        → r ≡ refusalAfter last (take m (now (protected .entry))) t 3 (now (body .entry))) ⌝ }
 {
     if body.len() != 2 {
         return 3;
@@ -147,7 +146,7 @@ pub fn protected_refusal<'a>(
 
 // As long as its n says, which is at most 16.
 fn is_row_sized(body: &[u8]) -> bool
-    ensures { λ r. ⌜ r ≡ sized 4 (now (body .entry)) ⌝ }
+    ensures { λ r. ⌜ r ≡ rowSized (now (body .entry)) ⌝ }
 {
     if body.len() < 7 {
         return false;
@@ -185,9 +184,9 @@ pub fn fault_row_refusal<'a>(
     k: usize,
 ) -> u8
     requires { ⌜ Column 128 (now ids) n × Slots 32 (now faults) k ⌝ }
-    ensures { λ r. ⌜ ((t : Tables) (base : ℕ) (protected : List ℕ)
-        → Holds t base (take n (now (ids .entry))) protected (take k (now (faults .entry)))
-        → r ≡ refusalAfter last t 4 (now (body .entry))) ⌝ }
+    ensures { λ r. ⌜ ((t : Tables)
+        → take n (now (ids .entry)) ≡ routed t
+        → r ≡ refusalAfter last (take k (now (faults .entry))) t 4 (now (body .entry))) ⌝ }
 {
     if !is_row_sized(body) {
         return 3;

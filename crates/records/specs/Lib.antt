@@ -1,7 +1,10 @@
 pub mod Records
+pub mod Written
+pub mod Kinds
+pub mod KindRules
 pub mod Checks
-pub mod Outcome
-pub mod OutcomeLaws
+pub mod RecordOutcome
+pub mod RecordOutcomeLaws
 pub mod RecordLaws
-pub mod Parts
-pub mod PartLaws
+pub mod RecordParts
+pub mod RecordPartLaws

@@ -3,7 +3,7 @@ ghost use mathlib.Core.Path.{_≡_};
 ghost use Prim.Native.Nat.{_+_, _≤_};
 ghost use lib.ListN.{length};
 ghost use Rattle.records.specs.Records.{le16};
-ghost use Rattle.records.specs.Parts.{EndSays};
+ghost use Rattle.records.specs.RecordParts.{EndSays, FoundAt};
 use wire::word;
 
 // The two-byte number at a place.
@@ -29,4 +29,26 @@ pub fn end_of(image: &[u8], at: usize) -> usize
         return 0;
     }
     at + 4 + size
+}
+
+// A record that was found: its end and its kind. Its body begins 4 bytes behind its place.
+pub struct Found {
+    pub end: usize,
+    pub kind: u16,
+}
+
+// The record at a place; its end is 0 where its header or body passes the end of the bytes.
+// internal: for those who walk over records, whose place is within the bytes.
+pub fn found_at(bytes: &[u8], at: usize) -> Found
+    requires { ⌜ at ≤ length (now bytes) ⌝ }
+    ensures { λ r. ⌜ FoundAt (now (bytes .entry)) at (r .kind) (r .end) ⌝ }
+{
+    let end = end_of(bytes, at);
+    if end == 0 {
+        return Found { end: 0, kind: 0 };
+    }
+    Found {
+        end,
+        kind: word_at(bytes, at + 2),
+    }
 }

@@ -1,13 +1,16 @@
 // Replay of a recording: the state is judged once, and each event costs one inner step.
 use replayrules::recording;
+use replayrules::types;
 use replayrules::types::Piece;
 use replayrules::types::Reached;
 use replayrules::types::Replayed;
+use replayrules::types::reached_at;
 use state::types::Arm;
 use state::types::Config;
 use state::types::Counts;
 use state::types::Numbers;
 use state::types::Run;
+use state::types::no_counts;
 ghost use mathlib.Core.Path.{_≡_};
 ghost use lib.ListN.{length};
 ghost use Rattle.state.specs.Tables.{configFrom, runFrom};
@@ -15,21 +18,7 @@ ghost use Rattle.state.specs.Sized.{LentState};
 ghost use Rattle.dispatch.specs.Dispatch.{over};
 ghost use Rattle.replayrules.specs.Replay.{Replays, Resumes, pieceOf, pieceBytes, replayOf, replayBytes};
 
-// What a replay that stops here came to.
-fn stopped(arm: Arm, counts: Counts, stop: u8, read: usize, count: usize, wrote: usize) -> Reached
-    ensures { λ r. ⌜ r ≡ record { arm = arm; counts = counts; stop = stop; read = read; count = count; wrote = wrote } ⌝ }
-{
-    Reached {
-        arm,
-        counts,
-        stop,
-        read,
-        count,
-        wrote,
-    }
-}
-
-// A recording behind a state that keeps its rules, event by event, until a record is bad or less than 266 bytes of the output
+// A recording behind a state that keeps its rules, event by event, until a record is bad or less than `EVENT_ROOM` bytes of the output
 // are left. Columns and fault states are lent; arm record and counters go by value and are worked out beside each step. Each arm
 // asks what its kind can be refused for and ends with its own turn of the cursors, so that the arms never join and the kind is
 // asked about once.
@@ -50,9 +39,11 @@ pub fn inner_replay<'a>(
     recording: &[u8],
     out: &mut [u8],
 ) -> Reached
-    requires { ⌜ LentState (configFrom numbers (now routeids) (now dests) (now protected) (now faultids) (now responses) (now latching) (now argcounts) (now args)) (runFrom arm counts (now states)) ⌝ }
+    requires { ⌜ LentState (configFrom numbers (now routeids) (now dests) (now protected) (now faultids)
+        (now responses) (now latching) (now argcounts) (now args)) (runFrom arm counts (now states)) ⌝ }
     ensures { λ r. ⌜ Replays
-        (configFrom numbers (now (routeids .entry)) (now (dests .entry)) (now (protected .entry)) (now (faultids .entry)) (now (responses .entry)) (now (latching .entry)) (now (argcounts .entry)) (now (args .entry)))
+        (configFrom numbers (now (routeids .entry)) (now (dests .entry)) (now (protected .entry)) (now (faultids .entry))
+        (now (responses .entry)) (now (latching .entry)) (now (argcounts .entry)) (now (args .entry)))
         (runFrom arm counts (now (states .entry))) (now (recording .entry)) (now (out .entry)) r (now (states .exit)) (now (out .exit)) ⌝ }
 {
     let mut armed = arm;
@@ -63,16 +54,16 @@ pub fn inner_replay<'a>(
     while read < recording.len() {
         let end = records::record::end_of(recording, read);
         if end == 0 {
-            return stopped(armed, counted, recording::CUT_SHORT, read, count, wrote);
+            return reached_at(armed, counted, recording::CUT_SHORT, read, count, wrote);
         }
         let kind = records::record::word_at(recording, read + 2);
         let from = read + 4;
         let body = &recording[from..end];
         if kind == 16 {
-            if out.len() - wrote < 266 {
-                return stopped(armed, counted, recording::OUTPUT_FULL, read, count, wrote);
+            if out.len() - wrote < recording::EVENT_ROOM {
+                return reached_at(armed, counted, recording::OUTPUT_FULL, read, count, wrote);
             }
-            let place = wrote + 6;
+            let place = wrote + recording::HEAD_SIZE;
             let sent = packetstep::inner_packet(
                 numbers,
                 routeids,
@@ -92,10 +83,10 @@ pub fn inner_replay<'a>(
             read = end;
         } else if kind == 17 {
             if body.len() != 0 {
-                return stopped(armed, counted, recording::WRONG_LENGTH, read, count, wrote);
+                return reached_at(armed, counted, recording::WRONG_LENGTH, read, count, wrote);
             }
-            if out.len() - wrote < 266 {
-                return stopped(armed, counted, recording::OUTPUT_FULL, read, count, wrote);
+            if out.len() - wrote < recording::EVENT_ROOM {
+                return reached_at(armed, counted, recording::OUTPUT_FULL, read, count, wrote);
             }
             let ticked = arming::tick_of(armed);
             wrote = recording::put_numbers(out, wrote, steprules::types::bare(ticked.answer));
@@ -105,12 +96,12 @@ pub fn inner_replay<'a>(
         } else {
             let refused = recording::refusal(kind, body.len());
             if refused != 0 {
-                return stopped(armed, counted, refused, read, count, wrote);
+                return reached_at(armed, counted, refused, read, count, wrote);
             }
-            if out.len() - wrote < 266 {
-                return stopped(armed, counted, recording::OUTPUT_FULL, read, count, wrote);
+            if out.len() - wrote < recording::EVENT_ROOM {
+                return reached_at(armed, counted, recording::OUTPUT_FULL, read, count, wrote);
             }
-            let place = wrote + 6;
+            let place = wrote + recording::HEAD_SIZE;
             let fault = records::record::word_at(body, 0);
             let answer = faultstep::inner_fault(
                 numbers,
@@ -131,7 +122,7 @@ pub fn inner_replay<'a>(
             read = end;
         }
     }
-    stopped(armed, counted, 0, read, count, wrote)
+    reached_at(armed, counted, 0, read, count, wrote)
 }
 
 // A piece of a recording behind any state: 20 where the state breaks its rules, which is judged once. A recording may come in
@@ -154,7 +145,8 @@ pub fn lent_resume<'a>(
     out: &mut [u8],
 ) -> Reached
     ensures { λ r. ⌜ Resumes
-        (configFrom numbers (now (routeids .entry)) (now (dests .entry)) (now (protected .entry)) (now (faultids .entry)) (now (responses .entry)) (now (latching .entry)) (now (argcounts .entry)) (now (args .entry)))
+        (configFrom numbers (now (routeids .entry)) (now (dests .entry)) (now (protected .entry)) (now (faultids .entry))
+        (now (responses .entry)) (now (latching .entry)) (now (argcounts .entry)) (now (args .entry)))
         (runFrom arm counts (now (states .entry))) (now (recording .entry)) (now (out .entry)) r (now (states .exit)) (now (out .exit)) ⌝ }
 {
     if !statecheck::lent_keeps(
@@ -170,7 +162,7 @@ pub fn lent_resume<'a>(
         arm,
         states,
     ) {
-        return stopped(arm, counts, 20, 0, 0, 0);
+        return reached_at(arm, counts, 20, 0, 0, 0);
     }
     inner_replay(
         numbers,
@@ -214,25 +206,14 @@ pub fn resume(config: Config, run: Run, recording: &[u8], out: &mut [u8]) -> Pie
         recording,
         out,
     );
-    let left = r.arm;
-    let counted = r.counts;
-    Piece {
-        run: Run {
-            arm: left,
-            counts: counted,
-            states,
-        },
-        stop: r.stop,
-        read: r.read,
-        count: r.count,
-        wrote: r.wrote,
-    }
+    types::piece_of(r, states)
 }
 
 // A whole recording under an image: bytes in, answers out. The load's refusal, and nothing written, where the image is refused.
 pub fn replay(image: &[u8], recording: &[u8], out: &mut [u8]) -> Replayed
     ensures told { λ r. ⌜ r ≡ replayOf (now (image .entry)) (now (recording .entry)) (length (now (out .entry))) ⌝ }
-    ensures output { λ r. ⌜ now (out .exit) ≡ over (replayBytes (now (image .entry)) (now (recording .entry)) (length (now (out .entry)))) (now (out .entry)) ⌝ }
+    ensures output { λ r. ⌜ now (out .exit)
+        ≡ over (replayBytes (now (image .entry)) (now (recording .entry)) (length (now (out .entry)))) (now (out .entry)) ⌝ }
 {
     let loaded = image::load::load(image);
     if loaded.answer != 0 {
@@ -243,15 +224,7 @@ pub fn replay(image: &[u8], recording: &[u8], out: &mut [u8]) -> Replayed
             read: 0,
             count: 0,
             wrote: 0,
-            counts: Counts {
-                a: 0,
-                r: 0,
-                d: 0,
-                p: 0,
-                u: 0,
-                i: 0,
-                f: 0,
-            },
+            counts: no_counts(),
         };
     }
     let config = loaded.config;

@@ -7,6 +7,7 @@ use lib.ListN.{length, take, drop, length-append, length-drop, drop-of-length-le
 use lib.Seq.{take-all, take-at, drop-at, drop-drop, drop-append-add, length-take-le, take-append-le, take-take}
 use Rattle.wire.specs.Put.{putAt}
 use Rattle.dispatch.specs.Dispatch.{over}
+use Rattle.replayrules.specs.Recording.{headSize}
 
 -- a buffer whose part from place n on was lent and came back as `part`
 abbrev pub backAs : List ℕ → ℕ → List ℕ → List ℕ
@@ -30,27 +31,27 @@ module _ (out₀ done : List ℕ) (w : ℕ) (e : w ≡ length done) where
   pub done-first : take w (over done out₀) ≡ done
   done-first = take-at done (drop (length done) out₀) w (sym e)
 
-  module _ (head cmd : List ℕ) (six : length head ≡ 6) where
+  module _ (head cmd : List ℕ) (six : length head ≡ headSize) where
     -- the numbers put before a command
-    pub numbers-put : (out : List ℕ) → take w out ≡ done → drop (w + 6) out ≡ over cmd (drop (w + 6) out₀)
+    pub numbers-put : (out : List ℕ) → take w out ≡ done → drop (w + headSize) out ≡ over cmd (drop (w + headSize) out₀)
         → putAt out w head ≡ over (done ++ (head ++ cmd)) out₀
     numbers-put out t d =
-        let long : w + 6 + length cmd ≡ length (done ++ (head ++ cmd)) = rw (length-append done (head ++ cmd), length-append head cmd, six) (omega (arith, e)) in
-        let rest : drop (length cmd) (drop (w + 6) out₀) ≡ drop (length (done ++ (head ++ cmd))) out₀ = drop-drop (length cmd) (w + 6) out₀ ∙ ap (λ k. drop k out₀) long in
+        let long : w + headSize + length cmd ≡ length (done ++ (head ++ cmd)) = rw (length-append done (head ++ cmd), length-append head cmd, six) (omega (arith, e)) in
+        let rest : drop (length cmd) (drop (w + headSize) out₀) ≡ drop (length (done ++ (head ++ cmd))) out₀ = drop-drop (length cmd) (w + headSize) out₀ ∙ ap (λ k. drop k out₀) long in
         rw (six, t, d, rest) (simp append-assoc)
 
     -- a command of a step that was lent the part behind the numbers
-    pub reply-put : w + 6 ≤ length out₀ → length done ≤ length out₀ → {part : List ℕ} → part ≡ over cmd (partFrom (over done out₀) (w + 6))
-        → putAt (backAs (over done out₀) (w + 6) part) w head ≡ over (done ++ (head ++ cmd)) out₀
+    pub reply-put : w + headSize ≤ length out₀ → length done ≤ length out₀ → {part : List ℕ} → part ≡ over cmd (partFrom (over done out₀) (w + headSize))
+        → putAt (backAs (over done out₀) (w + headSize) part) w head ≡ over (done ++ (head ++ cmd)) out₀
     reply-put fits l {part} p =
         let out = over done out₀ in
         let long : length out ≡ length out₀ = length-append done (drop (length done) out₀) ∙ omega (arith, length-drop (length done) out₀) in
-        let front : length (take (w + 6) out) ≡ w + 6 = length-take-le (w + 6) out (omega (arith, long)) in
-        let same : part ++ drop (length out - (w + 6)) (drop (w + 6) out) ≡ over cmd (drop (w + 6) out₀) = rw (nothing-behind out (w + 6), append-nil part, p, part-is out (w + 6), behind-done 6) in
-        numbers-put (backAs out (w + 6) part)
-        (take-append-le w (take (w + 6) out) _ (omega (arith, front)) ∙ take-take w (w + 6) out (omega arith) ∙ done-first)
-        (drop-at (take (w + 6) out) _ (w + 6) front ∙ same)
+        let front : length (take (w + headSize) out) ≡ w + headSize = length-take-le (w + headSize) out (omega (arith, long)) in
+        let same : part ++ drop (length out - (w + headSize)) (drop (w + headSize) out) ≡ over cmd (drop (w + headSize) out₀) = rw (nothing-behind out (w + headSize), append-nil part, p, part-is out (w + headSize), behind-done headSize) in
+        numbers-put (backAs out (w + headSize) part)
+        (take-append-le w (take (w + headSize) out) _ (omega (arith, front)) ∙ take-take w (w + headSize) out (omega arith) ∙ done-first)
+        (drop-at (take (w + headSize) out) _ (w + headSize) front ∙ same)
 
     -- an answer with no command
     pub answer-put : cmd ≡ [] → putAt (over done out₀) w head ≡ over (done ++ (head ++ cmd)) out₀
-    answer-put z = numbers-put (over done out₀) done-first (behind-done 6 ∙ rw z)
+    answer-put z = numbers-put (over done out₀) done-first (behind-done headSize ∙ rw z)

@@ -7,18 +7,17 @@ use Prim.Native.Nat.{ℕ, _+_}
 use native.Mathlib.Omega.{arith}
 use lib.Dec.{eqb}
 use lib.ListN.{length}
-use borrow.Author.Tests.{ne-eqb, eqb-true, eqb-false}
+use borrow.Author.Tests.{eqb-true, eqb-false}
 use Rattle.packetrules.specs.Layout.{commandId}
-use Rattle.packetrules.specs.Judge.{refusalOf, argumentsOf}
-use Rattle.packetrules.specs.Laws.{outcome}
+use Rattle.packetrules.specs.Judge.{argumentsOf}
 use Rattle.state.specs.declared.types.Run.{Run}
 use Rattle.state.specs.Tables.{Tables}
 use Rattle.dispatch.specs.Dispatch.{commandBytes, for10}
-use Rattle.faultstates.specs.FaultStates.{rowFor}
+use Rattle.faultstates.specs.FaultStates.{meant, rowFor}
 use Rattle.answers.specs.Answers.{answerTo, faultAnswer}
 use Rattle.steprules.specs.Step.{acceptedStep, rejectedStep, packetStep, tickStep, faultStep}
 use Rattle.steprules.specs.StepLaws.{packet-rejected, packet-accepted}
-use Rattle.steprules.specs.Demand1.{refused-range}
+use Rattle.steprules.specs.Packets.{refusalUnder, acceptedUnder, refusal-under-not}
 use Rattle.history.specs.Plain.{Event, packet, tick, fault}
 use Rattle.history.specs.Path.{step, bytesFor}
 pub use Rattle.history.specs.Outputs.{packet-over, fault-over}
@@ -33,15 +32,15 @@ command-long n source id args = go (eqb n 10)
 -- the answer counts the bytes of the command
 pub written-is : (t : Tables) (s : Run) (e : Event) → length (bytesFor t e (step t s e .answer .answer)) ≡ step t s e .answer .written
 unfolding acceptedStep rejectedStep tickStep faultStep
-written-is t s (packet p) = go (eqb (refusalOf p) 0) refl
+written-is t s (packet p) = go (acceptedUnder t p) refl
   where
-    go : (z : Bool) → eqb (refusalOf p) 0 ≡ z → length (bytesFor t (packet p) (packetStep t s p .answer .answer)) ≡ packetStep t s p .answer .written
+    go : (z : Bool) → acceptedUnder t p ≡ z → length (bytesFor t (packet p) (packetStep t s p .answer .answer)) ≡ packetStep t s p .answer .written
     go false e =
-        rw (← packet-rejected t s p (refusalOf p) (refl, eqb-false _ _ e))
-        (simp (ne-eqb (refusalOf p) 10 (λ q. omega (arith, refused-range (outcome p) (eqb-false _ _ e), q))))
+        rw (← packet-rejected t s p (refusalUnder t p) (refl, eqb-false _ _ e))
+        (simp (refusal-under-not t p (eqb-false _ _ e) 10 refl))
     go true e =
         rw (← packet-accepted t s p (commandId p) (argumentsOf p) (eqb-true _ _ e) refl refl)
         (command-long (answerTo t (s .arm .armed) (commandId p) (argumentsOf p)) (t .ground) (commandId p) (argumentsOf p))
 written-is t s tick = refl
 written-is t s (fault f) =
-    command-long (faultAnswer (t .rows) (s .states) f) (t .fault) (rowFor f (t .rows) .response) (rowFor f (t .rows) .args)
+    let row = rowFor (meant t f) (t .rows) in command-long (faultAnswer (s .states) (meant t f)) (t .fault) (row .response) (row .args)

@@ -26,7 +26,7 @@ use Rattle.history.specs.Known.{knownCounts}
 use Rattle.history.specs.Agree.{agree, counters}
 use Rattle.history.specs.Path.{step, replyOf, run, after}
 use Rattle.replayrules.specs.declared.types.Piece.{Piece}
-use Rattle.replayrules.specs.Recording.{cutShort, otherKind, wrongLength, outputFull, eventsOf, firstRefusal, bytesIn, replyBytes, flat, fitting}
+use Rattle.replayrules.specs.Recording.{cutShort, otherKind, wrongLength, outputFull, eventsOf, firstRefusal, bytesIn, replyBytes, allBytes, fitting, eventRoom}
 use Rattle.replayrules.specs.Replay.{idle, pieceOf, pieceBytes, replayOf}
 use Rattle.replayrules.specs.Theorems.{first-replies, all-answered, replies-long, refusal-range, run-pieces, after-pieces, run-long, path-answered}
 use Rattle.replayrules.specs.RecordPieces.{same-test, first-inside, events-then-rest, refusal-of-rest, bytes-then-rest, bad-stays, bytes-keep}
@@ -34,7 +34,7 @@ use Rattle.replayrules.specs.RecordPieces.{same-test, first-inside, even
 -- what was handed back and written is what the first events of a recording come to, as many as were counted
 pub record FirstAnswers (c : Config) (s : Run) (recording : List ℕ) (p : Piece) (out : List ℕ) : Type 0 where
   pub few : p .count ≤ length (eventsOf (recordsOf recording))
-  pub out-is : out ≡ flat (take (p .count) (run (tablesOf c) s (eventsOf (recordsOf recording))))
+  pub out-is : out ≡ allBytes (take (p .count) (run (tablesOf c) s (eventsOf (recordsOf recording))))
   pub run-is : p .run ≡ after (tablesOf c) s (take (p .count) (eventsOf (recordsOf recording)))
   pub read-is : p .read ≡ bytesIn (take (p .count) (recordsOf recording))
   pub stop-is : p .stop ≡ cond (ltb (p .count) (length (eventsOf (recordsOf recording)))) outputFull (firstRefusal (recordsOf recording))
@@ -57,7 +57,7 @@ one-piece c s recording room h =
     rw h
     (record {
       few = omega (arith, ap length first, length-take (length (fitting room xs)) xs, run-long (tablesOf c) s (eventsOf (recordsOf recording)));
-      out-is = ap flat first;
+      out-is = ap allBytes first;
       run-is = refl;
       read-is = refl;
       stop-is = refl;
@@ -78,7 +78,7 @@ not-full : (rs : List Record) → firstRefusal rs ≡ outputFull → ⊥
 not-full rs e = ⊎-elim (λ z. omega arith) (λ r. omega (arith, r .1)) (refusal-range rs)
 
 -- with 266 bytes for each event no call stops for room, on whatever state
-pub room-enough : (c : Config) (s : Run) (recording : List ℕ) (room : ℕ) → 266 * length (eventsOf (recordsOf recording)) ≤ room → pieceOf c s recording room .stop ≡ outputFull → ⊥
+pub room-enough : (c : Config) (s : Run) (recording : List ℕ) (room : ℕ) → eventRoom * length (eventsOf (recordsOf recording)) ≤ room → pieceOf c s recording room .stop ≡ outputFull → ⊥
 unfolding pieceOf
 room-enough c s recording room l e =
     let rs = recordsOf recording in
@@ -89,7 +89,7 @@ room-enough c s recording room l e =
     (λ k. omega (arith, rw k at e))
 
 -- nor does a replay
-pub replay-room-enough : (image recording : List ℕ) (room : ℕ) → 266 * length (eventsOf (recordsOf recording)) ≤ room → replayOf image recording room .stop ≡ outputFull → ⊥
+pub replay-room-enough : (image recording : List ℕ) (room : ℕ) → eventRoom * length (eventsOf (recordsOf recording)) ≤ room → replayOf image recording room .stop ≡ outputFull → ⊥
 unfolding replayOf
 replay-room-enough image recording room l e =
     let rs = recordsOf recording in
@@ -105,9 +105,9 @@ replay-room-enough image recording room l e =
 abbrev pub joined : Piece → Piece → Piece
 joined p q = record { run = q .run; stop = q .stop; read = p .read + q .read; count = p .count + q .count; wrote = p .wrote + q .wrote }
 
-flat-append : (xs ys : List Reply) → flat (xs ++ ys) ≡ flat xs ++ flat ys
-flat-append [] ys = refl
-flat-append (x ∷ xs) ys = rw (flat-append xs ys) (sym (append-assoc (replyBytes x) (flat xs) (flat ys)))
+bytes-append : (xs ys : List Reply) → allBytes (xs ++ ys) ≡ allBytes xs ++ allBytes ys
+bytes-append [] ys = refl
+bytes-append (x ∷ xs) ys = rw (bytes-append xs ys) (sym (append-assoc (replyBytes x) (allBytes xs) (allBytes ys)))
 
 take-both : {A : Type 0} (k j : ℕ) (xs ys : List A) → length xs ≡ k → take (k + j) (xs ++ ys) ≡ xs ++ take j ys
 take-both k j xs ys e = rw (← e) (take-append-add xs ys j)
@@ -122,13 +122,13 @@ two-answers {c} {s} {a} {p} {out} b {q} {more} h g =
     let whole : eventsOf (recordsOf (a ++ b)) ≡ take (p .count) es ++ fs = rw (h .read-is) (events-then-rest a b (p .count) (h .few)) in
     let k : length (take (p .count) es) ≡ p .count = length-take-le (p .count) es (h .few) in
     let long : length (eventsOf (recordsOf (a ++ b))) ≡ p .count + length fs = ap length whole ∙ length-append (take (p .count) es) fs ∙ rw k in
-    let first : out ≡ flat (run t s (take (p .count) es)) = h .out-is ∙ ap flat (run-first t (p .count) s es) in
+    let first : out ≡ allBytes (run t s (take (p .count) es)) = h .out-is ∙ ap allBytes (run-first t (p .count) s es) in
     let all : run t s (eventsOf (recordsOf (a ++ b))) ≡ run t s (take (p .count) es) ++ run t (p .run) fs = rw (whole, h .run-is) (run-pieces t s (take (p .count) es) fs) in
     record {
       few = omega (arith, long, g .few);
       out-is =
           rw (all, take-both (p .count) (q .count) (run t s (take (p .count) es)) (run t (p .run) fs) (run-long t s (take (p .count) es) ∙ k))
-          (rw (flat-append (run t s (take (p .count) es)) (take (q .count) (run t (p .run) fs)), ← first, ← g .out-is));
+          (rw (bytes-append (run t s (take (p .count) es)) (take (q .count) (run t (p .run) fs)), ← first, ← g .out-is));
       run-is = rw (whole, take-both (p .count) (q .count) (take (p .count) es) fs k, after-pieces t s (take (p .count) es) (take (q .count) fs), ← h .run-is) (g .run-is);
       read-is = rw (bytes-then-rest a b (p .count) (h .few) (q .count), ← h .read-is, ← g .read-is);
       stop-is = rw (long, same-test (suc (p .count + q .count)) (p .count + length fs) (suc (q .count)) (length fs) (λ l. omega arith) (λ l. omega arith), refusal-of-rest a b (p .count) (h .few), ← h .read-is) (g .stop-is);
@@ -232,16 +232,16 @@ chain-idles c s e a room (x ∷ xs) =
 pub pieces-agree : (image : List ℕ) → loadOf image .answer ≡ 0 → (a : List ℕ) (room : ℕ) (xs : List Turn) → Bytes (a ++ allMore xs)
     → let es = eventsOf (recordsOf (a ++ allMore xs)) in
     let n = chain (loadOf image .config) (loadOf image .run) a room xs .count in
-    (chainBytes (loadOf image .config) (loadOf image .run) a room xs ≡ flat (take n (replies (recordsOf image) [] es)))
+    (chainBytes (loadOf image .config) (loadOf image .run) a room xs ≡ allBytes (take n (replies (recordsOf image) [] es)))
     × (chain (loadOf image .config) (loadOf image .run) a room xs .run .counts ≡ knownCounts (recordsOf image) (latestFirst [] (take n es)))
 pieces-agree image z a room xs b =
     let es = eventsOf (recordsOf (a ++ allMore xs)) in
     let h = chain-answers (loadOf image .config) (loadOf image .run) a room xs (loaded-keeps image z) b in
     let n = chain (loadOf image .config) (loadOf image .run) a room xs .count in
-    (h .out-is ∙ ap (λ (l : List Reply). flat (take n l)) (agree image z es), ap (λ (r : Run). r .counts) (h .run-is) ∙ counters image z (take n es))
+    (h .out-is ∙ ap (λ (l : List Reply). allBytes (take n l)) (agree image z es), ap (λ (r : Run). r .counts) (h .run-is) ∙ counters image z (take n es))
 
 -- with 266 bytes in each call for each event of all the bytes, the last call does not stop for room
-pub chain-room : (c : Config) (s : Run) (a : List ℕ) (room : ℕ) (xs : List Turn) (most : ℕ) → 266 * length (eventsOf (recordsOf (a ++ allMore xs))) ≤ most
+pub chain-room : (c : Config) (s : Run) (a : List ℕ) (room : ℕ) (xs : List Turn) (most : ℕ) → eventRoom * length (eventsOf (recordsOf (a ++ allMore xs))) ≤ most
     → most ≤ room → Each (λ x. most ≤ x .room) xs → chain c s a room xs .stop ≡ outputFull → ⊥
 chain-room c s a room [] most l r e = λ q. room-enough c s a room (omega (arith, rw (append-nil a) at l)) q
 chain-room c s a room (x ∷ xs) most l r e = split (chain c s a room (x ∷ xs) .stop ≡ outputFull → ⊥) (keepsRules c s)

@@ -8,6 +8,7 @@ use lib.ListN.{length}
 use Rattle.records.specs.Records.{le16, Record}
 use Rattle.wire.specs.Check.{check}
 use Rattle.history.specs.Plain.{Event, packet, tick, fault, Reply}
+use Rattle.dispatch.specs.Dispatch.{stepRoom}
 
 -- ---- events: records in the same length and kind form as the image
 
@@ -60,15 +61,22 @@ bytesIn (r ∷ rs) = 4 + length (r .body) + bytesIn rs
 abbrev pub headBytes : ℕ → ℕ → ℕ → ℕ → List ℕ
 headBytes answer id dest written = answer ∷ id % 256 ∷ id / 256 ∷ dest ∷ written % 256 ∷ written / 256 ∷ []
 
+abbrev pub headSize : ℕ
+headSize = 6
+
 abbrev pub replyBytes : Reply → List ℕ
 replyBytes x = headBytes (x .answer) (x .id) (x .dest) (x .written) ++ x .bytes
 
 -- one behind the other
-abbrev pub flat : List Reply → List ℕ
-flat [] = []
-flat (x ∷ xs) = replyBytes x ++ flat xs
+abbrev pub allBytes : List Reply → List ℕ
+allBytes [] = []
+allBytes (x ∷ xs) = replyBytes x ++ allBytes xs
 
--- the first replies that find room: each asks for 266 bytes, six for its numbers and 260 for its command
+-- the room that each event asks for: its numbers, and the longest command
+abbrev pub eventRoom : ℕ
+eventRoom = headSize + stepRoom
+
+-- the first replies that find room
 abbrev pub fitting : ℕ → List Reply → List Reply
 fitting room [] = []
-fitting room (x ∷ xs) = cond (leb 266 room) (x ∷ fitting (room - length (replyBytes x)) xs) []
+fitting room (x ∷ xs) = cond (leb eventRoom room) (x ∷ fitting (room - length (replyBytes x)) xs) []

@@ -7,8 +7,10 @@ use Prim.Native.Nat.{ℕ}
 use lib.Dec.{eqb, ltb}
 use lib.ListN.{length, take}
 use Rattle.state.specs.declared.types.Config.{Config}
+use Rattle.state.specs.declared.types.Arm.{Arm}
+use Rattle.state.specs.declared.types.Counts.{Counts}
 use Rattle.state.specs.declared.types.Run.{Run}
-use Rattle.state.specs.Tables.{Tables, tablesOf}
+use Rattle.state.specs.Tables.{Tables, tablesOf, runFrom, noCounts}
 use Rattle.state.specs.Test.{keepsRules}
 use Rattle.dispatch.specs.Dispatch.{over}
 use Rattle.records.specs.Records.{Record, recordsOf}
@@ -19,7 +21,7 @@ use Rattle.history.specs.Known.{knownCounts}
 use Rattle.replayrules.specs.declared.types.Piece.{Piece}
 use Rattle.replayrules.specs.declared.types.Reached.{Reached}
 use Rattle.replayrules.specs.declared.types.Replayed.{Replayed}
-use Rattle.replayrules.specs.Recording.{outputFull, eventsOf, firstRefusal, bytesIn, flat, fitting}
+use Rattle.replayrules.specs.Recording.{outputFull, eventsOf, firstRefusal, bytesIn, allBytes, fitting}
 
 -- why the reading stopped, once these replies were given: the output is full where an event is left, else what refuses the first bad record
 abbrev pub stopOf : List Reply → List Record → ℕ
@@ -31,28 +33,24 @@ answered xs rs = take (length xs) (eventsOf rs)
 
 -- ---- a piece of a recording behind a state, by the running path
 
+-- where a replay stopped, and why
+abbrev pub stoppedAt : Run → ℕ → ℕ → ℕ → ℕ → Piece
+stoppedAt s n read count wrote = record { run = s; stop = n; read = read; count = count; wrote = wrote }
+
+-- and where the fault states are lent
+abbrev pub reachedAt : Arm → Counts → ℕ → ℕ → ℕ → ℕ → Reached
+reachedAt arm counts n read count wrote = record { arm = arm; counts = counts; stop = n; read = read; count = count; wrote = wrote }
+
 -- the replies that find room
 abbrev pub pathReplies : Tables → Run → List Record → ℕ → List Reply
 pathReplies t s rs room = fitting room (run t s (eventsOf rs))
 
 abbrev pub piece : Tables → Run → List Record → List Reply → Piece
-piece t s rs xs =
-    record {
-      run = after t s (answered xs rs);
-      stop = stopOf xs rs;
-      read = bytesIn (take (length xs) rs);
-      count = length xs;
-      wrote = length (flat xs);
-    }
-
--- where a replay stopped, and why
-abbrev pub stoppedAt : Run → ℕ → ℕ → ℕ → ℕ → Piece
-stoppedAt s n read count wrote = record { run = s; stop = n; read = read; count = count; wrote = wrote }
+piece t s rs xs = stoppedAt (after t s (answered xs rs)) (stopOf xs rs) (bytesIn (take (length xs) rs)) (length xs) (length (allBytes xs))
 
 -- what it came to and the fault states that were lent are the piece
 abbrev pub pieceLeft : Reached → List ℕ → Piece
-pieceLeft r states =
-    record { run = record { arm = r .arm; counts = r .counts; states = states }; stop = r .stop; read = r .read; count = r .count; wrote = r .wrote }
+pieceLeft r states = stoppedAt (runFrom (r .arm) (r .counts) states) (r .stop) (r .read) (r .count) (r .wrote)
 
 -- nothing read, nothing answered, nothing written
 abbrev pub idle : Run → ℕ → Piece
@@ -64,12 +62,12 @@ pieceOf c s recording room =
     cond (keepsRules c s) (piece (tablesOf c) s (recordsOf recording) (pathReplies (tablesOf c) s (recordsOf recording) room)) (idle s 20)
 
 unfoldable pub pieceBytes : Config → Run → List ℕ → ℕ → List ℕ
-pieceBytes c s recording room = cond (keepsRules c s) (flat (pathReplies (tablesOf c) s (recordsOf recording) room)) []
+pieceBytes c s recording room = cond (keepsRules c s) (allBytes (pathReplies (tablesOf c) s (recordsOf recording) room)) []
 
 -- a recording behind a state that keeps its rules, with the fault states lent: what it comes to, and what it writes
 pub record Replays (c : Config) (s : Run) (recording out : List ℕ) (r : Reached) (states left : List ℕ) : Type 0 where
   pub told : pieceLeft r states ≡ piece (tablesOf c) s (recordsOf recording) (pathReplies (tablesOf c) s (recordsOf recording) (length out))
-  pub output : left ≡ over (flat (pathReplies (tablesOf c) s (recordsOf recording) (length out))) out
+  pub output : left ≡ over (allBytes (pathReplies (tablesOf c) s (recordsOf recording) (length out))) out
 
 -- a recording behind any state
 pub record Resumes (c : Config) (s : Run) (recording out : List ℕ) (r : Reached) (states left : List ℕ) : Type 0 where
@@ -91,7 +89,7 @@ replayed image rs xs =
       stop = stopOf xs rs;
       read = bytesIn (take (length xs) rs);
       count = length xs;
-      wrote = length (flat xs);
+      wrote = length (allBytes xs);
       counts = knownCounts (recordsOf image) (latestFirst [] (answered xs rs));
     }
 
@@ -105,7 +103,7 @@ unloaded n place =
       read = 0;
       count = 0;
       wrote = 0;
-      counts = record { a = 0; r = 0; d = 0; p = 0; u = 0; i = 0; f = 0 };
+      counts = noCounts;
     }
 
 unfoldable pub replayOf : List ℕ → List ℕ → ℕ → Replayed
@@ -116,4 +114,4 @@ replayOf image recording room =
 
 -- the answers in bytes, one behind the other
 unfoldable pub replayBytes : List ℕ → List ℕ → ℕ → List ℕ
-replayBytes image recording room = flat (plainReplies image recording room)
+replayBytes image recording room = allBytes (plainReplies image recording room)

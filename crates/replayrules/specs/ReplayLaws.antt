@@ -21,14 +21,14 @@ use Rattle.history.specs.Known.{knownCounts}
 use Rattle.history.specs.Agree.{agree, counters}
 use Rattle.replayrules.specs.declared.types.Piece.{Piece}
 use Rattle.replayrules.specs.declared.types.Replayed.{Replayed}
-use Rattle.replayrules.specs.Recording.{eventsOf, bytesIn, flat, fitting}
+use Rattle.replayrules.specs.Recording.{eventsOf, bytesIn, allBytes, fitting}
 use Rattle.replayrules.specs.declared.types.Reached.{Reached}
-use Rattle.replayrules.specs.Replay.{Replays, Resumes, stopOf, answered, pathReplies, piece, pieceOf, pieceBytes, plainReplies, replayed, unloaded, replayOf, replayBytes}
+use Rattle.replayrules.specs.Replay.{Replays, Resumes, stopOf, answered, pathReplies, piece, pieceOf, pieceBytes, plainReplies, replayed, unloaded, replayOf, replayBytes, reachedAt}
 
 -- ---- a piece behind any state
 
 module _ (c : Config) (s : Run) (recording out : List ℕ) where
-  pub breaks : keepsRules c s ≡ false → Resumes c s recording out (record { arm = s .arm; counts = s .counts; stop = 20; read = 0; count = 0; wrote = 0 }) (s .states) out
+  pub breaks : keepsRules c s ≡ false → Resumes c s recording out (reachedAt (s .arm) (s .counts) 20 0 0 0) (s .states) out
   unfolding pieceOf pieceBytes
   breaks e = record { told = rw e refl; output = rw e refl }
 
@@ -64,17 +64,17 @@ module _ (image recording out : List ℕ) {l : Loaded} (e : l ≡ loadOf image) 
 
     abbrev counting : List Reply → Counts → Replayed
     counting xs cs =
-        record { load = 0; offset = 0; stop = stopOf xs events; read = bytesIn (take (length xs) events); count = length xs; wrote = length (flat xs); counts = cs }
+        record { load = 0; offset = 0; stop = stopOf xs events; read = bytesIn (take (length xs) events); count = length xs; wrote = length (allBytes xs); counts = cs }
 
     final : replayed image events (plainReplies image recording (length out)) ≡ replayOf image recording (length out)
     unfolding replayOf
     final = rw (eq-eqb _ _ loads)
 
     -- the piece of the running path is the plain reading's
-    pub loaded : {p : Piece} → p ≡ piece (tablesOf (l .config)) (l .run) events path → {left : List ℕ} → left ≡ over (flat path) out
+    pub loaded : {p : Piece} → p ≡ piece (tablesOf (l .config)) (l .run) events path → {left : List ℕ} → left ≡ over (allBytes path) out
         → (whole p ≡ replayOf image recording (length out))
         × (left ≡ over (replayBytes image recording (length out)) out)
     unfolding replayBytes
     loaded h o =
         let same : whole (piece (tablesOf (l .config)) (l .run) events path) ≡ replayed image events path = ap (counting path) (counted path) in
-        (ap whole h ∙ same ∙ ap (λ (xs : List Reply). replayed image events xs) plain ∙ final, o ∙ ap (λ (xs : List Reply). over (flat xs) out) plain)
+        (ap whole h ∙ same ∙ ap (λ (xs : List Reply). replayed image events xs) plain ∙ final, o ∙ ap (λ (xs : List Reply). over (allBytes xs) out) plain)

@@ -22,12 +22,12 @@ use Rattle.state.specs.KeepsLaws.{keeps}
 use Rattle.records.specs.Records.{Record, recordsOf}
 use Rattle.image.specs.Image.{loadOf}
 use Rattle.image.specs.Theorems.{loaded-keeps}
-use Rattle.history.specs.Plain.{Event, packet, Reply, bare, accepted, latestFirst, tables, reply, replies}
+use Rattle.history.specs.Plain.{Event, packet, Reply, bareReply, accepted, latestFirst, tables, reply, replies}
 use Rattle.history.specs.Path.{step, replyOf, run, after}
 use Rattle.history.specs.Agree.{agree}
 use Rattle.history.specs.Outputs.{step-fits}
 use Rattle.history.specs.ArmRule.{PastExactly, plain-arm-rule}
-use Rattle.replayrules.specs.Recording.{cutShort, otherKind, wrongLength, outputFull, eventSized, kindRefusal, eventRefusal, eventsOf, firstRefusal, replyBytes, fitting}
+use Rattle.replayrules.specs.Recording.{cutShort, otherKind, wrongLength, outputFull, eventSized, kindRefusal, eventRefusal, eventsOf, firstRefusal, replyBytes, fitting, eventRoom}
 use Rattle.replayrules.specs.Replay.{stopOf, pathReplies, idle, pieceOf, pieceBytes, plainReplies}
 
 -- ---- the answers that find room
@@ -35,7 +35,7 @@ use Rattle.replayrules.specs.Replay.{stopOf, pathReplies, idle, pieceOf,
 -- the first ones, in their order
 pub first-replies : (room : ℕ) (xs : List Reply) → fitting room xs ≡ take (length (fitting room xs)) xs
 first-replies room [] = refl
-first-replies room (x ∷ xs) = go (leb 266 room) (first-replies (room - length (replyBytes x)) xs)
+first-replies room (x ∷ xs) = go (leb eventRoom room) (first-replies (room - length (replyBytes x)) xs)
   where
     rest : List Reply
     rest = fitting (room - length (replyBytes x)) xs
@@ -46,12 +46,12 @@ first-replies room (x ∷ xs) = go (leb 266 room) (first-replies (room - length 
 
 -- all of them, where there are 266 bytes for each
 abbrev Short : Reply → Type 0
-Short x = length (replyBytes x) ≤ 266
+Short x = length (replyBytes x) ≤ eventRoom
 
-all-fit : (room : ℕ) (xs : List Reply) → Each Short xs → 266 * length xs ≤ room → fitting room xs ≡ xs
+all-fit : (room : ℕ) (xs : List Reply) → Each Short xs → eventRoom * length xs ≤ room → fitting room xs ≡ xs
 all-fit room [] h l = refl
 all-fit room (x ∷ xs) h l =
-    rw (le-leb 266 room (omega arith)) (ap (λ (r : List Reply). x ∷ r) (all-fit (room - length (replyBytes x)) xs (h .1) (omega (arith, h .0))))
+    rw (le-leb eventRoom room (omega arith)) (ap (λ (r : List Reply). x ∷ r) (all-fit (room - length (replyBytes x)) xs (h .1) (omega (arith, h .0))))
 
 module _ (t : Tables) where
   -- one for each event
@@ -68,7 +68,7 @@ module _ (t : Tables) where
     all-short s (e ∷ es) = (short s e, all-short (step t s e .run) es)
 
 -- of a state that keeps its rules
-pub path-answered : (c : Config) (s : Run) → keepsRules c s ≡ true → (es : List Event) (room : ℕ) → 266 * length es ≤ room → fitting room (run (tablesOf c) s es) ≡ run (tablesOf c) s es
+pub path-answered : (c : Config) (s : Run) → keepsRules c s ≡ true → (es : List Event) (room : ℕ) → eventRoom * length es ≤ room → fitting room (run (tablesOf c) s es) ≡ run (tablesOf c) s es
 path-answered c s k es room l =
     let t = tablesOf c in
     all-fit room (run t s es) (all-short t (keeps c s k .rules .rows-ok) s es) (omega (arith, run-long t s es))
@@ -78,7 +78,7 @@ replies-long image h [] = refl
 replies-long image h (e ∷ es) = ap suc (replies-long image (e ∷ h) es)
 
 -- and of an image, by the plain reading
-pub all-answered : (image : List ℕ) → loadOf image .answer ≡ 0 → (recording : List ℕ) (room : ℕ) → 266 * length (eventsOf (recordsOf recording)) ≤ room
+pub all-answered : (image : List ℕ) → loadOf image .answer ≡ 0 → (recording : List ℕ) (room : ℕ) → eventRoom * length (eventsOf (recordsOf recording)) ≤ room
     → plainReplies image recording room ≡ replies (recordsOf image) [] (eventsOf (recordsOf recording))
 all-answered image z recording room l =
     let es = eventsOf (recordsOf recording) in
@@ -88,11 +88,11 @@ all-answered image z recording room l =
 
 -- the reply at a place, and one with the answer 0 where there is none
 abbrev pub replyAt : List Reply → ℕ → Reply
-replyAt xs k = getD xs k (bare 0)
+replyAt xs k = getD xs k (bareReply 0)
 
 fitting-at : (room : ℕ) (xs : List Reply) (k : ℕ) → k < length (fitting room xs) → replyAt (fitting room xs) k ≡ replyAt xs k
 fitting-at room [] k l = refl
-fitting-at room (x ∷ xs) k l = go (leb 266 room) k l (λ k l. fitting-at (room - length (replyBytes x)) xs k l)
+fitting-at room (x ∷ xs) k l = go (leb eventRoom room) k l (λ k l. fitting-at (room - length (replyBytes x)) xs k l)
   where
     rest : List Reply
     rest = fitting (room - length (replyBytes x)) xs
@@ -121,7 +121,7 @@ module _ (image recording : List ℕ) (room : ℕ) (before later : List Event) w
 
   -- the arm rule of a replay: a protected command from an accepted packet is let past exactly when the events before it say so
   pub replay-arm-rule :
-      (p : List ℕ) → accepted p ≡ true → member (commandId p) (tables (recordsOf image) .protected) ≡ true
+      (p : List ℕ) → accepted (recordsOf image) p ≡ true → member (commandId p) (tables (recordsOf image) .protected) ≡ true
       → eventsOf (recordsOf recording) ≡ before ++ (packet p ∷ later) → length before < length (plainReplies image recording room)
       → PastExactly (recordsOf image) (latestFirst [] before) (replyAt (plainReplies image recording room) (length before) .answer)
   replay-arm-rule p a m s l = rw (replay-at (packet p) s l) (plain-arm-rule (recordsOf image) (latestFirst [] before) p a m)

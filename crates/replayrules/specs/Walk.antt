@@ -22,8 +22,8 @@ use Rattle.history.specs.Plain.{Event, Reply}
 use Rattle.history.specs.Path.{step, bytesFor, replyOf, after}
 use Rattle.history.specs.Calls.{EventBytes, step-keeps}
 use Rattle.replayrules.specs.declared.types.Piece.{Piece}
-use Rattle.replayrules.specs.Recording.{cutShort, outputFull, eventIn, eventRefusal, kindRefusal, eventsOf, firstRefusal, bytesIn, headBytes, replyBytes, flat, fitting}
-use Rattle.replayrules.specs.Replay.{stopOf, answered, pathReplies, piece}
+use Rattle.replayrules.specs.Recording.{cutShort, outputFull, eventIn, eventRefusal, kindRefusal, eventsOf, firstRefusal, bytesIn, headBytes, replyBytes, allBytes, fitting, eventRoom, headSize}
+use Rattle.replayrules.specs.Replay.{stopOf, answered, pathReplies, piece, stoppedAt}
 use Rattle.replayrules.specs.OutputLaws.{backAs, partFrom, part-is, reply-put, answer-put}
 use Rattle.replayrules.specs.PathLaws.{written-is}
 
@@ -37,14 +37,14 @@ module _ (t : Tables) where
         stop = stopOf xs rs;
         read = read + bytesIn (take (length xs) rs);
         count = count + length xs;
-        wrote = wrote + length (flat xs);
+        wrote = wrote + length (allBytes xs);
       }
 
   from-start : (s : Run) (rs : List Record) (xs : List Reply) → pieceFrom s 0 0 0 rs xs ≡ piece t s rs xs
   from-start s rs xs = simp zero-add
 
   -- no reply more
-  stands : (s : Run) (read count wrote : ℕ) (rs : List Record) → pieceFrom s read count wrote rs [] ≡ record { run = s; stop = stopOf [] rs; read = read; count = count; wrote = wrote }
+  stands : (s : Run) (read count wrote : ℕ) (rs : List Record) → pieceFrom s read count wrote rs [] ≡ stoppedAt s (stopOf [] rs) read count wrote
   stands s read count wrote rs = simp add-zero
 
   -- one reply more
@@ -55,16 +55,16 @@ module _ (t : Tables) where
     abbrev x : Reply
     x = replyOf t (eventIn r) next
 
-    more-replies : 266 ≤ room - wrote → pathReplies t s (r ∷ rs) (room - wrote) ≡ x ∷ pathReplies t (next .run) rs (room - (wrote + length (replyBytes x)))
+    more-replies : eventRoom ≤ room - wrote → pathReplies t s (r ∷ rs) (room - wrote) ≡ x ∷ pathReplies t (next .run) rs (room - (wrote + length (replyBytes x)))
     more-replies l =
         let less : room - wrote - length (replyBytes x) ≡ room - (wrote + length (replyBytes x)) = omega arith in
-        rw (eq-eqb _ _ z, le-leb 266 (room - wrote) l, less)
+        rw (eq-eqb _ _ z, le-leb eventRoom (room - wrote) l, less)
 
     more-piece : (xs : List Reply) → pieceFrom s read count wrote (r ∷ rs) (x ∷ xs) ≡ pieceFrom (next .run) (read + (4 + length (r .body))) (count + 1) (wrote + length (replyBytes x)) rs xs
     more-piece xs =
         let n : read + (4 + length (r .body) + bytesIn (take (length xs) rs)) ≡ read + (4 + length (r .body)) + bytesIn (take (length xs) rs) = omega arith in
         let m : count + (length (x ∷ xs)) ≡ count + 1 + length xs = omega arith in
-        let w : wrote + length (replyBytes x ++ flat xs) ≡ wrote + length (replyBytes x) + length (flat xs) = omega (arith, length-append (replyBytes x) (flat xs)) in
+        let w : wrote + length (replyBytes x ++ allBytes xs) ≡ wrote + length (replyBytes x) + length (allBytes xs) = omega (arith, length-append (replyBytes x) (allBytes xs)) in
         rw (eq-eqb _ _ z, n, m, w, leb·suc-suc)
 
 -- ---- the invariant
@@ -83,12 +83,12 @@ pub record Going (c : Config) (bs out₀ : List ℕ) (s₀ : Run) (out : List �
   pub rest : let rs = recordsFrom fuel bs read in
       pieceFrom (tablesOf c) s read count wrote rs (pathReplies (tablesOf c) s rs (length out₀ - wrote)) ≡ piece (tablesOf c) s₀ (recordsOf bs) (pathReplies (tablesOf c) s₀ (recordsOf bs) (length out₀))
   pub bytes : let rs = recordsFrom fuel bs read in
-      done ++ flat (pathReplies (tablesOf c) s rs (length out₀ - wrote)) ≡ flat (pathReplies (tablesOf c) s₀ (recordsOf bs) (length out₀))
+      done ++ allBytes (pathReplies (tablesOf c) s rs (length out₀ - wrote)) ≡ allBytes (pathReplies (tablesOf c) s₀ (recordsOf bs) (length out₀))
 
 -- the piece and the output that the contract asks for
 pub record Told (c : Config) (bs out₀ : List ℕ) (s₀ : Run) (out : List ℕ) (p : Piece) : Type 0 where
   pub told : p ≡ piece (tablesOf c) s₀ (recordsOf bs) (pathReplies (tablesOf c) s₀ (recordsOf bs) (length out₀))
-  pub output : out ≡ over (flat (pathReplies (tablesOf c) s₀ (recordsOf bs) (length out₀))) out₀
+  pub output : out ≡ over (allBytes (pathReplies (tablesOf c) s₀ (recordsOf bs) (length out₀))) out₀
 
 pub start : {c : Config} {s₀ : Run} → Keeps c s₀ → (bs out₀ : List ℕ) → Going c bs out₀ s₀ out₀ s₀ 0 0 0
 start {c} {s₀} k bs out₀ =
@@ -118,17 +118,17 @@ module _ {c : Config} {bs out₀ : List ℕ} {s₀ : Run} {out : List ℕ} {s : 
   same = rw (g .out-is) (length-append (g .done) (drop (length (g .done)) out₀) ∙ omega (arith, length-drop (length (g .done)) out₀, g .wrote-is, g .fits))
 
   -- where no reply follows, this is all
-  stops : {n : ℕ} → pathReplies t s records (length out₀ - wrote) ≡ [] → stopOf [] records ≡ n → Told c bs out₀ s₀ out (record { run = s; stop = n; read = read; count = count; wrote = wrote })
+  stops : {n : ℕ} → pathReplies t s records (length out₀ - wrote) ≡ [] → stopOf [] records ≡ n → Told c bs out₀ s₀ out (stoppedAt s n read count wrote)
   stops e q =
       record {
-        told = ap (λ k. record { run = s; stop = k; read = read; count = count; wrote = wrote }) (sym q) ∙ sym (stands t s read count wrote records) ∙ (rw e at (g .rest));
+        told = ap (λ k. stoppedAt s k read count wrote) (sym q) ∙ sym (stands t s read count wrote records) ∙ (rw e at (g .rest));
         output = g .out-is ∙ ap (λ (d : List ℕ). over d out₀) (sym (append-nil (g .done)) ∙ (rw e at (g .bytes)));
       }
 
-  pub ends : length bs ≤ read → Told c bs out₀ s₀ out (record { run = s; stop = 0; read = read; count = count; wrote = wrote })
+  pub ends : length bs ≤ read → Told c bs out₀ s₀ out (stoppedAt s 0 read count wrote)
   ends l = let none = none-from (g .fuel) bs read l in stops (rw none) (rw none)
 
-  pub cuts : read < length bs → recordAt bs read ≡ cut read → Told c bs out₀ s₀ out (record { run = s; stop = cutShort; read = read; count = count; wrote = wrote })
+  pub cuts : read < length bs → recordAt bs read ≡ cut read → Told c bs out₀ s₀ out (stoppedAt s cutShort read count wrote)
   cuts l e =
       let one : records ≡ cut read ∷ [] = one-from (g .fuel) bs read (g .enough) l ∙ rw e in
       stops (rw one) (rw one)
@@ -142,20 +142,20 @@ module _ {c : Config} {bs out₀ : List ℕ} {s₀ : Run} {out : List ℕ} {s : 
     here = one-from (g .fuel) bs read (g .enough) l ∙ rw (whole-at h) (ap (λ k. found ∷ recordsFrom (g .fuel - 1) bs k) (body-ends h))
 
     module _ {n : ℕ} (e : n ≡ kindRefusal kind (length (bodyAt bs read end))) where
-      pub refuses : (n ≡ 0 → ⊥) → Told c bs out₀ s₀ out (record { run = s; stop = n; read = read; count = count; wrote = wrote })
+      pub refuses : (n ≡ 0 → ⊥) → Told c bs out₀ s₀ out (stoppedAt s n read count wrote)
       refuses q = stops (rw (here, ← e) (simp (ne-eqb n 0 q))) (rw (here, ← e) (simp (ne-eqb n 0 q)))
 
-      pub cramped : n ≡ 0 → length out₀ - wrote < 266 → Told c bs out₀ s₀ out (record { run = s; stop = outputFull; read = read; count = count; wrote = wrote })
+      pub cramped : n ≡ 0 → length out₀ - wrote < eventRoom → Told c bs out₀ s₀ out (stoppedAt s outputFull read count wrote)
       cramped z q =
           let good = eq-eqb _ _ (sym e ∙ z) in
-          stops (rw (here, good) (simp (lt-leb 266 (length out₀ - wrote) q))) (rw (here, good, lt-ltb 0 (length (eventIn found ∷ eventsOf (recordsFrom (g .fuel - 1) bs end))) (omega arith)))
+          stops (rw (here, good) (simp (lt-leb eventRoom (length out₀ - wrote) q))) (rw (here, good, lt-ltb 0 (length (eventIn found ∷ eventsOf (recordsFrom (g .fuel - 1) bs end))) (omega arith)))
 
-      module _ (z : n ≡ 0) (q : 266 ≤ length out₀ - wrote) where
+      module _ (z : n ≡ 0) (q : eventRoom ≤ length out₀ - wrote) where
         -- the invariant behind a reply that was put behind the others
         abbrev Turned : Event → List ℕ → Stepped → Type 0
         Turned ev put next =
-            put ≡ over (g .done ++ replyBytes (replyOf t ev next)) out₀ → wrote + 6 + next .answer .written ≤ length out₀
-            → Going c bs out₀ s₀ put (next .run) end (count + 1) (wrote + 6 + next .answer .written)
+            put ≡ over (g .done ++ replyBytes (replyOf t ev next)) out₀ → wrote + headSize + next .answer .written ≤ length out₀
+            → Going c bs out₀ s₀ put (next .run) end (count + 1) (wrote + headSize + next .answer .written)
 
         turned : EventBytes (eventIn found) → (put : List ℕ) → Turned (eventIn found) put (step t s (eventIn found))
         turned b put p f =
@@ -164,7 +164,7 @@ module _ {c : Config} {bs out₀ : List ℕ} {s₀ : Run} {out : List ℕ} {s : 
             let rs = recordsFrom (g .fuel - 1) bs end in
             let x = replyOf t (eventIn found) now in
             let xs = pathReplies t (now .run) rs (length out₀ - (wrote + length (replyBytes x))) in
-            let long : wrote + 6 + now .answer .written ≡ wrote + length (replyBytes x) = omega (arith, written-is t s (eventIn found)) in
+            let long : wrote + headSize + now .answer .written ≡ wrote + length (replyBytes x) = omega (arith, written-is t s (eventIn found)) in
             let behind : end ≡ read + (4 + length (bodyAt bs read end)) = omega (arith, body-ends h) in
             let first = more-replies t s read count wrote (length out₀) found rs good q in
             record {
@@ -182,7 +182,7 @@ module _ {c : Config} {bs out₀ : List ℕ} {s₀ : Run} {out : List ℕ} {s : 
                   (ap (λ k. pieceFrom t (now .run) k (count + 1) (wrote + length (replyBytes x)) rs xs) behind
                   ∙ sym (more-piece t s read count wrote (length out₀) found rs good xs)
                   ∙ (rw (here, first) at (g .rest)));
-              bytes = rw long (append-assoc (g .done) (replyBytes x) (flat xs) ∙ (rw (here, first) at (g .bytes)));
+              bytes = rw long (append-assoc (g .done) (replyBytes x) (allBytes xs) ∙ (rw (here, first) at (g .bytes)));
             }
 
         -- this event, and the step that it got
@@ -200,19 +200,19 @@ module _ {c : Config} {bs out₀ : List ℕ} {s₀ : Run} {out : List ℕ} {s : 
           counted = rw w (written-is t s ev)
 
           -- a step that was lent the output behind the place of its numbers; they are put there once it is back
-          pub goes-on : {part : List ℕ} → part ≡ over command (partFrom out (wrote + 6)) → length part ≡ length (partFrom out (wrote + 6))
-              → {put : List ℕ} → put ≡ putAt (backAs out (wrote + 6) part) wrote numbers
-              → Going c bs out₀ s₀ put (next .run) end (count + 1) (wrote + 6 + next .answer .written)
+          pub goes-on : {part : List ℕ} → part ≡ over command (partFrom out (wrote + headSize)) → length part ≡ length (partFrom out (wrote + headSize))
+              → {put : List ℕ} → put ≡ putAt (backAs out (wrote + headSize) part) wrote numbers
+              → Going c bs out₀ s₀ put (next .run) end (count + 1) (wrote + headSize + next .answer .written)
           goes-on {part} e k {put} p =
-              let room : length (partFrom out (wrote + 6)) ≡ length out₀ - (wrote + 6) = rw (part-is out (wrote + 6), length-drop (wrote + 6) out, same) in
-              let short : length command + length (drop (length command) (partFrom out (wrote + 6))) ≡ length out₀ - (wrote + 6) = sym (length-append command _) ∙ ap length (sym e) ∙ k ∙ room in
+              let room : length (partFrom out (wrote + headSize)) ≡ length out₀ - (wrote + headSize) = rw (part-is out (wrote + headSize), length-drop (wrote + headSize) out, same) in
+              let short : length command + length (drop (length command) (partFrom out (wrote + headSize))) ≡ length out₀ - (wrote + headSize) = sym (length-append command _) ∙ ap length (sym e) ∙ k ∙ room in
               turn put
               (p ∙ rw (g .out-is) (reply-put out₀ (g .done) wrote (g .wrote-is) numbers command refl (omega (arith, q)) (omega (arith, g .fits, g .wrote-is)) (rw (g .out-is) at e)))
               (omega (arith, counted, short, q))
 
           -- a step that was lent nothing
           pub goes-on-silent : command ≡ [] → {put : List ℕ} → put ≡ putAt out wrote numbers
-              → Going c bs out₀ s₀ put (next .run) end (count + 1) (wrote + 6 + next .answer .written)
+              → Going c bs out₀ s₀ put (next .run) end (count + 1) (wrote + headSize + next .answer .written)
           goes-on-silent n {put} p =
               turn put
               (p ∙ rw (g .out-is) (answer-put out₀ (g .done) wrote (g .wrote-is) numbers command refl n))

@@ -6,7 +6,7 @@ ghost use mathlib.Core.Path.{_≡_};
 ghost use Prim.Native.Nat.{_+_, _≤_};
 ghost use lib.ListN.{length};
 ghost use Rattle.wire.specs.Put.{putAt};
-ghost use Rattle.replayrules.specs.Recording.{kindRefusal, headBytes};
+ghost use Rattle.replayrules.specs.Recording.{kindRefusal, headSize, headBytes};
 
 // Why a reading stops before its end: a record is cut, is of another kind, has a wrong length; the output is full. These
 // numbers mean nothing else.
@@ -17,6 +17,11 @@ pub const OTHER_KIND: u8 = 61;
 pub const WRONG_LENGTH: u8 = 62;
 
 pub const OUTPUT_FULL: u8 = 63;
+
+// The bytes of a reply's numbers, and the room that an event asks for: these, and the longest command.
+pub const HEAD_SIZE: usize = 6;
+
+pub const EVENT_ROOM: usize = HEAD_SIZE + dispatch::STEP_ROOM;
 
 // What is wrong with a whole record: its kind, or the length of its body; 0 nothing.
 pub fn refusal(kind: u16, size: usize) -> u8
@@ -43,8 +48,8 @@ pub fn refusal(kind: u16, size: usize) -> u8
 // Puts the four numbers of an answer before the place of its command; the place behind that command.
 // internal: for the replay, which has seen that there is room.
 pub fn put_numbers(out: &mut [u8], at: usize, a: Answer) -> usize
-    requires { ⌜ at + 6 ≤ length (now out) ⌝ }
-    ensures end { λ r. ⌜ r ≡ at + 6 + a .written ⌝ }
+    requires { ⌜ at + headSize ≤ length (now out) ⌝ }
+    ensures end { λ r. ⌜ r ≡ at + headSize + a .written ⌝ }
     ensures output { λ r. ⌜ now (out .exit) ≡ putAt (now (out .entry)) at (headBytes (a .answer) (a .id) (a .dest) (a .written)) ⌝ }
 {
     let head = [
@@ -56,5 +61,5 @@ pub fn put_numbers(out: &mut [u8], at: usize, a: Answer) -> usize
         high(a.written),
     ];
     wire::put::bytes(out, at, &head);
-    at + 6 + a.written as usize
+    at + HEAD_SIZE + a.written as usize
 }

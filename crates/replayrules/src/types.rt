@@ -1,7 +1,10 @@
-// What a replay hands back.
+// What a replay hands back, and the makers of it.
 use state::types::Arm;
 use state::types::Counts;
 use state::types::Run;
+use state::types::run_of;
+ghost use mathlib.Core.Path.{_≡_};
+ghost use Rattle.replayrules.specs.Replay.{reachedAt, pieceLeft};
 
 // What a piece of a recording came to, and the run that it left.
 #[repr(C)]
@@ -38,4 +41,40 @@ pub struct Replayed {
     pub wrote: usize,
     // the seven counters behind the last event that was answered
     pub counts: Counts,
+}
+
+// Where a replay stopped, and why; the fault states are left where they stand.
+pub fn reached_at(
+    arm: Arm,
+    counts: Counts,
+    stop: u8,
+    read: usize,
+    count: usize,
+    wrote: usize,
+) -> Reached
+    ensures { λ r. ⌜ r ≡ reachedAt arm counts stop read count wrote ⌝ }
+{
+    Reached {
+        arm,
+        counts,
+        stop,
+        read,
+        count,
+        wrote,
+    }
+}
+
+// That piece, with the fault states that it left.
+pub fn piece_of(r: Reached, states: [u8; 32]) -> Piece
+    ensures { λ p. ⌜ p ≡ pieceLeft r states ⌝ }
+{
+    let arm = r.arm;
+    let counts = r.counts;
+    Piece {
+        run: run_of(arm, counts, states),
+        stop: r.stop,
+        read: r.read,
+        count: r.count,
+        wrote: r.wrote,
+    }
 }

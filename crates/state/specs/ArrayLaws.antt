@@ -1,6 +1,6 @@
 -- Laws of tables in arrays: what is written is read back, a store behind the last row is a row more, the ids in use are the
 -- first of their column, and the arrays are as long as the types say.
-use mathlib.Core.Path.{_≡_, refl, sym, ap, ap₂, _∙_}
+use mathlib.Core.Path.{_≡_, refl, sym, ap, ap₂, fun-ext, _∙_}
 use mathlib.Core.List.{List, [], _∷_, _++_, map, append-assoc, append-nil}
 use Prim.Native.Nat.{ℕ, zero, suc, _+_, _-_, _*_, _<_, _≤_}
 use native.Mathlib.Nat.{add-zero, zero-add, suc-add, add-suc, sub-zero}
@@ -24,7 +24,16 @@ module _ {A : Type 0} where
       ap₂ (λ (y : A) (ys : List A). y ∷ ys) (ap f (sym (add-zero k)) ∙ h 0 (omega arith))
       (listed-back f d (suc k) xs (λ i l. ap f (suc-add k i ∙ sym (add-suc k i)) ∙ h (suc i) (omega arith)))
 
-  pub map-listed : {B : Type 0} (g : A → B) (f : ℕ → A) (k n : ℕ) → map g (listed f k n) ≡ listed (λ i. g (f i)) k n
+  -- and what stands at each of them
+  listed-from : (f : ℕ → A) (d : A) (j n k : ℕ) → k < n → getD (listed f j n) k d ≡ f (j + k)
+  listed-from f d j zero k h = absurd (omega arith)
+  listed-from f d j (suc n) zero h = ap f (sym (add-zero j))
+  listed-from f d j (suc n) (suc k) h = listed-from f d (suc j) n k (omega arith) ∙ ap f (suc-add j k ∙ sym (add-suc j k))
+
+  pub listed-at : (f : ℕ → A) (d : A) (n k : ℕ) → k < n → getD (listed f 0 n) k d ≡ f k
+  listed-at f d n k h = listed-from f d 0 n k h ∙ ap f (zero-add k)
+
+  map-listed : {B : Type 0} (g : A → B) (f : ℕ → A) (k n : ℕ) → map g (listed f k n) ≡ listed (λ i. g (f i)) k n
   map-listed g f k zero = refl
   map-listed {B} g f k (suc n) = ap (λ (l : List B). g (f k) ∷ l) (map-listed g f (suc k) n)
 
@@ -36,6 +45,11 @@ column-from xs k (suc n) h =
 
 pub column-is : (xs : List ℕ) (n : ℕ) → n ≤ length xs → listed (λ i. getD xs i 0) 0 n ≡ take n xs
 column-is xs n h = column-from xs 0 n (omega arith)
+
+-- rows of which a column has one number each: those numbers are the first of the column
+pub column-of : {A : Type 0} (g : A → ℕ) (f : ℕ → A) (xs : List ℕ) (n : ℕ) → ((i : ℕ) → g (f i) ≡ getD xs i 0) → n ≤ length xs
+    → map g (listed f 0 n) ≡ take n xs
+column-of g f xs n e h = map-listed g f 0 n ∙ ap (λ (r : ℕ → ℕ). listed r 0 n) (fun-ext e) ∙ column-is xs n h
 
 -- ---- a list in an array
 
@@ -182,12 +196,11 @@ module _ (c : Config) where
   rows-count = length-listed (rowAt (c .faultids) (c .responses) (c .latching) (c .argcounts) (c .args)) 0 (c .numbers .nrows)
 
   pub routed-is : c .numbers .nroutes ≤ length (c .routeids) → routed (tablesOf c) ≡ take (c .numbers .nroutes) (c .routeids)
-  routed-is h = map-listed routeId (routeAt (c .routeids) (c .dests)) 0 (c .numbers .nroutes) ∙ column-is (c .routeids) (c .numbers .nroutes) h
+  routed-is h = column-of routeId (routeAt (c .routeids) (c .dests)) (c .routeids) (c .numbers .nroutes) (λ i. refl) h
 
   pub fault-ids-are : c .numbers .nrows ≤ length (c .faultids) → map faultId (tablesOf c .rows) ≡ take (c .numbers .nrows) (c .faultids)
   fault-ids-are h =
-      map-listed faultId (rowAt (c .faultids) (c .responses) (c .latching) (c .argcounts) (c .args)) 0 (c .numbers .nrows)
-      ∙ column-is (c .faultids) (c .numbers .nrows) h
+      column-of faultId (rowAt (c .faultids) (c .responses) (c .latching) (c .argcounts) (c .args)) (c .faultids) (c .numbers .nrows) (λ i. refl) h
 
 -- ---- tables that keep their rules keep them in arrays, with a fresh run
 

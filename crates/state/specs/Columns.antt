@@ -15,15 +15,15 @@ module _ {c : Config} {run : Run} (k : Keeps c run) (s : Sized c) where
   pub route-column : Column 128 (c .routeids) (c .numbers .nroutes)
   route-column =
       let n : c .numbers .nroutes ≤ 128 = omega (arith, routes-count c, k .rules .few-routes) in
-      record { long = s .routeids-128; within = n; rise = rw (routed-is c (omega arith)) at (k .rules .routes-rise) }
+      record { slots = record { long = s .routeids-128; within = n }; rise = rw (routed-is c (omega arith)) at (k .rules .routes-rise) }
 
   pub protected-column : Column 32 (c .protected) (c .numbers .nprotected)
-  protected-column = record { long = s .protected-32; within = k .within; rise = k .rules .protected-rise }
+  protected-column = record { slots = record { long = s .protected-32; within = k .within }; rise = k .rules .protected-rise }
 
   pub fault-column : Column 32 (c .faultids) (c .numbers .nrows)
   fault-column =
       let n : c .numbers .nrows ≤ 32 = omega (arith, rows-count c, k .rules .few-rows) in
-      record { long = s .faultids-32; within = n; rise = rw (fault-ids-are c (omega arith)) at (k .rules .rows-rise) }
+      record { slots = record { long = s .faultids-32; within = n }; rise = rw (fault-ids-are c (omega arith)) at (k .rules .rows-rise) }
 
 clear-small : (ss : List ℕ) → Clear ss → (k : ℕ) → getD ss k 0 ≤ 2
 clear-small [] h k = omega arith

@@ -90,9 +90,31 @@ configFrom numbers routeids dests protected faultids responses latching argcount
       args = args;
     }
 
--- and the run of an arm record, counters and lent fault states
+-- ---- the run: made here and nowhere else
+
+-- the run of an arm record, counters and fault states
 abbrev pub runFrom : Arm → Counts → List ℕ → Run
 runFrom arm counts states = record { arm = arm; counts = counts; states = states }
+
+-- a run with one part changed
+abbrev pub withArm : Arm → Run → Run
+withArm arm run = runFrom arm (run .counts) (run .states)
+
+abbrev pub withCounts : Counts → Run → Run
+withCounts counts run = runFrom (run .arm) counts (run .states)
+
+abbrev pub withStates : List ℕ → Run → Run
+withStates states run = runFrom (run .arm) (run .counts) states
+
+abbrev pub unarmed : Arm
+unarmed = record { armed = false; ticks = 0 }
+
+abbrev pub noCounts : Counts
+noCounts = record { a = 0; r = 0; d = 0; p = 0; u = 0; i = 0; f = 0 }
+
+-- unarmed, zero counters, and these fault states, as they stand in their array
+abbrev pub firstRun : List ℕ → Run
+firstRun states = runFrom unarmed noCounts states
 
 -- ---- written into arrays
 
@@ -130,11 +152,6 @@ configOf t =
       args = padded 512 (flat (map argsOf (t .rows)));
     }
 
--- unarmed, zero counters, and these fault states
+-- the first run of these fault states
 abbrev pub freshRun : List ℕ → Run
-freshRun states =
-    record {
-      arm = record { armed = false; ticks = 0 };
-      counts = record { a = 0; r = 0; d = 0; p = 0; u = 0; i = 0; f = 0 };
-      states = padded 32 states;
-    }
+freshRun states = firstRun (padded 32 states)

@@ -1,5 +1,7 @@
 // What the state is made of. The tables stand in arrays of numbers, one array for each column, because that is what a step
-// looks through fastest; rows that are not in use are zero.
+// looks through fastest; rows that are not in use are zero. A run and its parts are made here and nowhere else.
+ghost use mathlib.Core.Path.{_≡_};
+ghost use Rattle.state.specs.Tables.{noCounts, runFrom, firstRun};
 
 // The numbers of a configuration: sources, own base, and the rows in use of each table. They go by value, beside lent columns.
 #[repr(C)]
@@ -53,4 +55,41 @@ pub struct Run {
     pub arm: Arm,
     pub counts: Counts,
     pub states: [u8; 32],
+}
+
+// All seven counters at zero.
+pub fn no_counts() -> Counts
+    ensures { λ r. ⌜ r ≡ noCounts ⌝ }
+{
+    Counts {
+        a: 0,
+        r: 0,
+        d: 0,
+        p: 0,
+        u: 0,
+        i: 0,
+        f: 0,
+    }
+}
+
+// The run of its parts.
+pub fn run_of(arm: Arm, counts: Counts, states: [u8; 32]) -> Run
+    ensures { λ r. ⌜ r ≡ runFrom arm counts states ⌝ }
+{
+    Run {
+        arm,
+        counts,
+        states,
+    }
+}
+
+// The run behind loading: unarmed, zero counters, and these fault states.
+pub fn first_run(states: [u8; 32]) -> Run
+    ensures { λ r. ⌜ r ≡ firstRun states ⌝ }
+{
+    let unarmed = Arm {
+        armed: false,
+        ticks: 0,
+    };
+    run_of(unarmed, no_counts(), states)
 }

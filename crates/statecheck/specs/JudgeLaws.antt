@@ -10,9 +10,9 @@ use Rattle.state.specs.declared.types.Config.{Config}
 use Rattle.state.specs.declared.types.Arm.{Arm}
 use Rattle.state.specs.declared.types.Counts.{Counts}
 use Rattle.state.specs.declared.types.Run.{Run}
-use Rattle.state.specs.Tables.{FaultRow, routeId, faultId, listed, routeAt, rowAt, tablesOf}
+use Rattle.state.specs.Tables.{FaultRow, routeId, faultId, listed, routeAt, rowAt, tablesOf, runFrom}
 use Rattle.state.specs.Sized.{Sized, LentSized}
-use Rattle.state.specs.ArrayLaws.{map-listed, column-is, routed-is}
+use Rattle.state.specs.ArrayLaws.{column-of, routed-is}
 use Rattle.state.specs.Rules.{basicsOk}
 use Rattle.state.specs.Keeps.{Rising, Each}
 use Rattle.state.specs.Lookup.{Column}
@@ -28,10 +28,9 @@ pub routes-column : (base : ℕ) (ids dests : List ℕ) (n : ℕ) → (length id
 unfolding routesKept
 routes-column base ids dests n (l, m) e =
     record {
-      long = l;
-      within = omega arith;
+      slots = record { long = l; within = omega arith };
       rise =
-          rw (map-listed routeId (routeAt ids dests) 0 n, column-is ids n m) at
+          rw (column-of routeId (routeAt ids dests) ids n (λ i. refl) m) at
           (rising-keeps routeId (λ r h. route-keeps h) 0 (listed (routeAt ids dests) 0 n) e .0);
     }
 
@@ -117,7 +116,7 @@ module _ (c : Config) (r : Run) (s : Sized c) where
 
 -- so the judge answers with the first part that fails, or with the last
 abbrev pub Judged : Config → Arm → List ℕ → Bool → Type 0
-Judged c a states x = ((counts : Counts) → x ≡ keepsRules c (record { arm = a; counts = counts; states = states })) × LentSized c states
+Judged c a states x = ((counts : Counts) → x ≡ keepsRules c (runFrom a counts states)) × LentSized c states
 
 module _ {c : Config} {states : List ℕ} (s : LentSized c states) (a : Arm) where
   abbrev pub part : ℕ → Bool

@@ -20,11 +20,11 @@ use valuecheck::counts_ok;
 ghost use mathlib.Core.Path.{_≡_};
 ghost use Prim.Native.Nat.{_≤_};
 ghost use lib.ListN.{length};
-ghost use Rattle.state.specs.declared.types.Counts.{Counts};
 ghost use Rattle.state.specs.Sized.{LentSized};
 ghost use Rattle.state.specs.Tables.{configFrom};
 ghost use Rattle.state.specs.Test.{keepsRules};
 ghost use Rattle.tablecheck.specs.Parts.{routesPart};
+ghost use Rattle.statecheck.specs.JudgeLaws.{Judged};
 
 // The routes, and the protected ids once the routes are known to rise.
 fn routes_judged<'a>(
@@ -65,9 +65,12 @@ pub fn lent_keeps<'a>(
     arm: Arm,
     states: &'a [u8],
 ) -> bool
-    requires { ⌜ LentSized (configFrom numbers (now routeids) (now dests) (now protected) (now faultids) (now responses) (now latching) (now argcounts) (now args)) (now states) ⌝ }
-    ensures keeps { λ r. ⌜ ((counts : Counts) → r ≡ keepsRules (configFrom numbers (now (routeids .entry)) (now (dests .entry)) (now (protected .entry)) (now (faultids .entry)) (now (responses .entry)) (now (latching .entry)) (now (argcounts .entry)) (now (args .entry))) (record { arm = arm; counts = counts; states = now (states .entry) })) ⌝ }
-    ensures sized { λ _. ⌜ LentSized (configFrom numbers (now (routeids .entry)) (now (dests .entry)) (now (protected .entry)) (now (faultids .entry)) (now (responses .entry)) (now (latching .entry)) (now (argcounts .entry)) (now (args .entry))) (now (states .entry)) ⌝ }
+    requires { ⌜ LentSized
+        (configFrom numbers (now routeids) (now dests) (now protected) (now faultids) (now responses) (now latching) (now argcounts) (now args)) (now states) ⌝ }
+    ensures { λ r. ⌜ Judged
+        (configFrom numbers (now (routeids .entry)) (now (dests .entry)) (now (protected .entry)) (now (faultids .entry))
+        (now (responses .entry)) (now (latching .entry)) (now (argcounts .entry)) (now (args .entry)))
+        arm (now (states .entry)) r ⌝ }
 {
     if !counts_ok(numbers.nroutes, numbers.nprotected, numbers.nrows) {
         return false;

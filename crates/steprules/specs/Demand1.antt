@@ -1,70 +1,62 @@
 -- Demand 1 of the steps: what a refusal leaves as it was. Answers 20 and 21 change nothing at all; any answer but 10 changes
 -- no output byte; a rejected packet moves only R; a tick and a fault leave what they must.
-use mathlib.Core.Path.{_≡_, refl, sym, ap}
-use mathlib.Core.Bool.{Bool, true, false, cond, _&&_}
+use mathlib.Core.Path.{_≡_, refl, sym, ap, _∙_}
+use mathlib.Core.Bool.{Bool, true, false, cond, _&&_, false≢true}
+use mathlib.Core.Option.{Option}
 use mathlib.Core.List.{List}
 use Prim.Native.Nat.{ℕ, _+_, _%_, _≤_}
 use native.Mathlib.Omega.{arith}
-use lib.Dec.{eqb, lit≤}
-use Rattle.packetrules.specs.Outcome.{Outcome, BadForm, not-version-0, not-telecommand, not-secondary, not-xor-0, below-6, not-whole, bad-form, no-room, too-many, taken}
+use lib.Dec.{eqb}
+use Rattle.packetrules.specs.Rejection.{isRejection}
 use Rattle.state.specs.declared.types.Config.{Config}
 use Rattle.state.specs.declared.types.Run.{Run}
 use Rattle.state.specs.declared.types.Counts.{Counts}
-use Rattle.state.specs.Tables.{Tables, tablesOf}
+use Rattle.state.specs.Tables.{Tables, tablesOf, withCounts}
 use Rattle.state.specs.Test.{keepsRules}
 use Rattle.steprules.specs.declared.types.Stepped.{Stepped}
-use Rattle.faultstates.specs.FaultStates.{enabled, rowFor, stateFor}
+use Rattle.faultstates.specs.FaultStates.{enabled, meant, rowFor, stateFor}
 use Rattle.faultstates.specs.ActLaws.{non-latching-keeps}
 use Rattle.arming.specs.Arming.{tickAnswer}
 use Rattle.counters.specs.Counters.{rejectedCounts}
 use Rattle.dispatch.specs.DispatchLaws.{sent-not}
-use Rattle.steprules.specs.Bare.{unchanged}
+use Rattle.steprules.specs.Packets.{isAccepted, not-under, rejected-not, accepted-not}
+use Rattle.steprules.specs.Makers.{unchanged}
 use Rattle.steprules.specs.Step.{packetOutput, packetStepOf, faultOutput, faultStepOf, tickStep, tickStepOf, rejectedStep}
 use Rattle.steprules.specs.Outcome.{Answered, stopped, miscounted, no-row, row-done, arm-taken, own-done, no-route, goes, Faulted, unlisted, quiet, responds, PacketSteps, packet-steps, FaultSteps, fault-steps, TickSteps, tick-steps}
 use Rattle.steprules.specs.Outcome as outcome
 
 -- ---- the numbers
 
-bad-range : {s : List ℕ} {n : ℕ} → BadForm s n → (22 ≤ n) × (n ≤ 29)
-bad-range (not-version-0 h) = (lit≤ tt, lit≤ tt)
-bad-range (not-telecommand v h) = (lit≤ tt, lit≤ tt)
-bad-range (not-secondary v t h) = (lit≤ tt, lit≤ tt)
-bad-range (not-xor-0 v t f h) = (lit≤ tt, lit≤ tt)
-
--- the judge refuses with 22 to 29
-pub refused-range : {s : List ℕ} {n : ℕ} → Outcome s n → (n ≡ 0 → ⊥) → (22 ≤ n) × (n ≤ 29)
-refused-range (below-6 h) z = (lit≤ tt, lit≤ tt)
-refused-range (not-whole a h) z = (lit≤ tt, lit≤ tt)
-refused-range (bad-form a b) z = bad-range b
-refused-range (no-room a f h) z = (lit≤ tt, lit≤ tt)
-refused-range (too-many a f r h) z = (lit≤ tt, lit≤ tt)
-refused-range (taken a) z = absurd (z refl)
-
 -- an accepted packet gets none of 20 to 29
-pub answered-range : {t : Tables} {armed : Bool} {id : ℕ} {args : List ℕ} {n : ℕ} → Answered t armed id args n → 20 ≤ n → n ≤ 29 → ⊥
-answered-range (stopped a) h l = omega arith
-answered-range (miscounted a k b c) h l = omega arith
-answered-range (no-row a k b c d e) h l = omega arith
-answered-range (row-done a k b c d e) h l = omega arith
-answered-range (arm-taken a b c) h l = omega arith
-answered-range (own-done a k b c d e) h l = omega arith
-answered-range (no-route a b c) h l = omega arith
-answered-range (goes a b c) h l = omega arith
+pub answered-accepted : {t : Tables} {armed : Bool} {id : ℕ} {args : List ℕ} {n : ℕ} → Answered t armed id args n → isAccepted n ≡ true
+answered-accepted (stopped a) = refl
+answered-accepted (miscounted a k b c) = refl
+answered-accepted (no-row a k b c d e) = refl
+answered-accepted (row-done a k b c d place e) = refl
+answered-accepted (arm-taken a b c) = refl
+answered-accepted (own-done a k b c d e) = refl
+answered-accepted (no-route a b c) = refl
+answered-accepted (goes a b c) = refl
 
 faulted-range : {t : Tables} {states : List ℕ} {f n : ℕ} → Faulted t states f n → 20 ≤ n → n ≤ 21 → ⊥
 faulted-range (unlisted m) h l = omega arith
-faulted-range (quiet m s) h l = omega arith
-faulted-range (responds m s) h l = omega arith
+faulted-range (quiet place m s) h l = omega arith
+faulted-range (responds place m s) h l = omega arith
 
 -- ---- 20 and 21 change nothing at all
 
 module _ (c : Config) (run : Run) (p : List ℕ) (room : ℕ) where
+  abbrev t : Tables
+  t = tablesOf c
+
   nothing : (r : Stepped) → PacketSteps c run p room r → 20 ≤ r .answer .answer → r .answer .answer ≤ 21 → r ≡ unchanged run (r .answer .answer)
   unfolding rejectedStep
   nothing r (outcome.breaks e) h l = refl
   nothing r (outcome.cramped e q) h l = refl
-  nothing r (outcome.rejects e q n o z) h l = absurd (omega (arith, refused-range o z))
-  nothing r (outcome.does e q a n o) h l = absurd (answered-range o h (omega arith))
+  nothing r (outcome.rejects e q n o z) h l = absurd (omega (arith, not-under t p o z 20 refl, not-under t p o z 21 refl))
+  nothing r (outcome.does e q a n o) h l =
+      let y = answered-accepted o in
+      absurd (omega (arith, accepted-not n y 20 refl, accepted-not n y 21 refl))
 
   -- the run as it was, and every number of the answer zero but the refusal
   pub packet-refused-unchanged : 20 ≤ packetStepOf c run p room .answer .answer → packetStepOf c run p room .answer .answer ≤ 21
@@ -79,22 +71,22 @@ module _ (c : Config) (run : Run) (p : List ℕ) (room : ℕ) where
   unfolding rejectedStep
   only-broken r (outcome.breaks e) h = e
   only-broken r (outcome.cramped e q) h = absurd (omega arith)
-  only-broken r (outcome.rejects e q n o z) h = absurd (omega (arith, refused-range o z))
-  only-broken r (outcome.does e q a n o) h = absurd (answered-range o (omega arith) (omega arith))
+  only-broken r (outcome.rejects e q n o z) h = absurd (not-under t p o z 20 refl h)
+  only-broken r (outcome.does e q a n o) h = absurd (accepted-not n (answered-accepted o) 20 refl h)
 
   pub packet-20-broken : packetStepOf c run p room .answer .answer ≡ 20 → keepsRules c run ≡ false
   packet-20-broken = only-broken (packetStepOf c run p room) (packet-steps c run p room)
 
-  -- a rejected packet (22 to 29) moves only the rejected count
-  only-r : (r : Stepped) → PacketSteps c run p room r → 22 ≤ r .answer .answer → r .answer .answer ≤ 29 → r .run ≡ record { arm = run .arm; counts = rejectedCounts (run .counts); states = run .states }
+  -- a rejected packet moves only the rejected count
+  only-r : (r : Stepped) → PacketSteps c run p room r → isRejection (r .answer .answer) ≡ true → r .run ≡ withCounts (rejectedCounts (run .counts)) run
   unfolding rejectedStep
-  only-r r (outcome.breaks e) h l = absurd (omega arith)
-  only-r r (outcome.cramped e q) h l = absurd (omega arith)
-  only-r r (outcome.rejects e q n o z) h l = refl
-  only-r r (outcome.does e q a n o) h l = absurd (answered-range o (omega arith) l)
+  only-r r (outcome.breaks e) h = absurd (false≢true h)
+  only-r r (outcome.cramped e q) h = absurd (false≢true h)
+  only-r r (outcome.rejects e q n o z) h = refl
+  only-r r (outcome.does e q a n o) h = absurd (false≢true (sym (rejected-not n h) ∙ answered-accepted o))
 
-  pub rejected-moves-only-r : 22 ≤ packetStepOf c run p room .answer .answer → packetStepOf c run p room .answer .answer ≤ 29
-      → packetStepOf c run p room .run ≡ record { arm = run .arm; counts = rejectedCounts (run .counts); states = run .states }
+  pub rejected-moves-only-r : isRejection (packetStepOf c run p room .answer .answer) ≡ true
+      → packetStepOf c run p room .run ≡ withCounts (rejectedCounts (run .counts)) run
   rejected-moves-only-r = only-r (packetStepOf c run p room) (packet-steps c run p room)
 
 -- R by one, modulo 65,536, and the six others stay
@@ -137,26 +129,29 @@ module _ (c : Config) (run : Run) (f room : ℕ) where
   same-states r (outcome.breaks e) h = refl
   same-states r (outcome.cramped e q) h = refl
   same-states r (outcome.does e q n (unlisted m)) h = refl
-  same-states r (outcome.does e q n (quiet m s)) h = refl
-  same-states r (outcome.does e q n (responds m s)) h = absurd (h refl)
+  same-states r (outcome.does e q n (quiet place m s)) h = refl
+  same-states r (outcome.does e q n (responds place m s)) h = absurd (h refl)
 
   pub undispatched-fault-leaves-states : (faultStepOf c run f room .answer .answer ≡ 10 → ⊥) → faultStepOf c run f room .run .states ≡ run .states
   undispatched-fault-leaves-states = same-states (faultStepOf c run f room) (fault-steps c run f room)
 
+  abbrev place : Option ℕ
+  place = meant (tablesOf c) f
+
   -- nor does a fault of a row that doesn't latch, whatever its answer
-  same-unlatched : rowFor f (tablesOf c .rows) .latching ≡ 0 → (r : Stepped) → FaultSteps c run f room r → r .run .states ≡ run .states
+  same-unlatched : rowFor place (tablesOf c .rows) .latching ≡ 0 → (r : Stepped) → FaultSteps c run f room r → r .run .states ≡ run .states
   same-unlatched z r (outcome.breaks e) = refl
   same-unlatched z r (outcome.cramped e q) = refl
   same-unlatched z r (outcome.does e q n (unlisted m)) = refl
-  same-unlatched z r (outcome.does e q n (quiet m s)) = refl
-  same-unlatched z r (outcome.does e q n (responds m s)) = non-latching-keeps f (tablesOf c .rows) (run .states) z
+  same-unlatched z r (outcome.does e q n (quiet k m s)) = refl
+  same-unlatched z r (outcome.does e q n (responds k m s)) = non-latching-keeps (tablesOf c .rows) place (run .states) z
 
-  pub non-latching-leaves-states : rowFor f (tablesOf c .rows) .latching ≡ 0 → faultStepOf c run f room .run .states ≡ run .states
+  pub non-latching-leaves-states : rowFor place (tablesOf c .rows) .latching ≡ 0 → faultStepOf c run f room .run .states ≡ run .states
   non-latching-leaves-states z = same-unlatched z (faultStepOf c run f room) (fault-steps c run f room)
 
   -- so a row that doesn't latch stays enabled
-  pub non-latching-stays : rowFor f (tablesOf c .rows) .latching ≡ 0 → stateFor f (tablesOf c .rows) (run .states) ≡ enabled
-      → stateFor f (tablesOf c .rows) (faultStepOf c run f room .run .states) ≡ enabled
+  pub non-latching-stays : rowFor place (tablesOf c .rows) .latching ≡ 0 → stateFor place (run .states) ≡ enabled
+      → stateFor place (faultStepOf c run f room .run .states) ≡ enabled
   non-latching-stays z e = rw (non-latching-leaves-states z) e
 
 module _ (c : Config) (run : Run) where

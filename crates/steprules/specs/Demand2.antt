@@ -2,65 +2,65 @@
 -- carries exactly the id and argument bytes of its packet or fault row, its source, and the destination of its route.
 use mathlib.Core.Path.{_≡_, refl, sym, ap, _∙_}
 use mathlib.Core.Bool.{true, false, false≢true}
-use mathlib.Core.List.{List, map}
+use mathlib.Core.Option.{some}
+use mathlib.Core.List.{List}
 use Prim.Native.Nat.{ℕ, _+_, _*_, _≤_}
 use native.Mathlib.Omega.{arith}
 use lib.ListN.{length, getD, take, drop}
 use lib.Seq.{take-append-seam, drop-at}
 use Rattle.packetrules.specs.Layout.{commandId}
 use Rattle.packetrules.specs.Judge.{argumentsOf}
-use Rattle.packetrules.specs.Outcome.{Outcome, Accepts}
-use Rattle.packetrules.specs.Laws.{only, accepted}
 use Rattle.state.specs.declared.types.Config.{Config}
 use Rattle.state.specs.declared.types.Run.{Run}
-use Rattle.state.specs.Tables.{Tables, faultId, routed, tablesOf}
+use Rattle.state.specs.Tables.{FaultRow, Tables, routed, tablesOf}
 use Rattle.state.specs.Rules.{member}
 use Rattle.state.specs.Test.{keepsRules}
 use Rattle.steprules.specs.declared.types.Stepped.{Stepped}
-use Rattle.faultstates.specs.FaultStates.{enabled, rowFor, stateFor}
-use Rattle.dispatch.specs.Dispatch.{commandBytes, sent, destOf}
+use Rattle.faultstates.specs.FaultStates.{enabled, meant, noRow, rowFor}
+use Rattle.dispatch.specs.Dispatch.{commandBytes, sent, destOf, stepRoom}
 use Rattle.dispatch.specs.DispatchLaws.{sent-10}
 use Rattle.answers.specs.Answers.{blocked}
 use Rattle.steprules.specs.Step.{packetOutput, packetStepOf, faultOutput, faultStepOf, faultStep, rejectedStep}
 use Rattle.steprules.specs.Outcome.{stopped, miscounted, no-row, row-done, arm-taken, own-done, no-route, goes, unlisted, quiet, responds, PacketSteps, packet-steps, FaultSteps, fault-steps}
 use Rattle.steprules.specs.Outcome as outcomes
-use Rattle.steprules.specs.Demand1.{refused-range, answered-range}
+use Rattle.steprules.specs.Packets.{isAccepted, OutcomeUnder, AcceptsUnder, only-under, accepted-under, rejects-under, not-under, rejected-not}
+use Rattle.steprules.specs.Demand1.{answered-accepted}
 
 -- ---- accepted exactly when the state keeps its rules, there is room, and the judge accepts
 
-abbrev pub None20to29 : ℕ → Type 0
-None20to29 n = 20 ≤ n → n ≤ 29 → ⊥
-
 module _ (c : Config) (run : Run) (p : List ℕ) (room : ℕ) where
-  was-accepted : (r : Stepped) → PacketSteps c run p room r → None20to29 (r .answer .answer) → (keepsRules c run ≡ true) × (260 ≤ room) × Accepts p
+  abbrev t : Tables
+  t = tablesOf c
+
+  was-accepted : (r : Stepped) → PacketSteps c run p room r → isAccepted (r .answer .answer) ≡ true → (keepsRules c run ≡ true) × (stepRoom ≤ room) × AcceptsUnder t p
   unfolding rejectedStep
-  was-accepted r (outcomes.breaks e) h = absurd (h (omega arith) (omega arith))
-  was-accepted r (outcomes.cramped e q) h = absurd (h (omega arith) (omega arith))
-  was-accepted r (outcomes.rejects e q n o z) h = absurd (h (omega (arith, refused-range o z)) (omega (arith, refused-range o z)))
+  was-accepted r (outcomes.breaks e) h = absurd (false≢true h)
+  was-accepted r (outcomes.cramped e q) h = absurd (false≢true h)
+  was-accepted r (outcomes.rejects e q n o z) h = absurd (false≢true (sym (rejected-not n (rejects-under t p o z)) ∙ h))
   was-accepted r (outcomes.does e q a n o) h = (e, q, a)
 
-  pub accepted-only-if : None20to29 (packetStepOf c run p room .answer .answer) → (keepsRules c run ≡ true) × (260 ≤ room) × Accepts p
+  pub accepted-only-if : isAccepted (packetStepOf c run p room .answer .answer) ≡ true → (keepsRules c run ≡ true) × (stepRoom ≤ room) × AcceptsUnder t p
   accepted-only-if = was-accepted (packetStepOf c run p room) (packet-steps c run p room)
 
-  is-accepted : (r : Stepped) → PacketSteps c run p room r → keepsRules c run ≡ true → 260 ≤ room → Accepts p → None20to29 (r .answer .answer)
+  is-accepted : (r : Stepped) → PacketSteps c run p room r → keepsRules c run ≡ true → stepRoom ≤ room → AcceptsUnder t p → isAccepted (r .answer .answer) ≡ true
   unfolding rejectedStep
-  is-accepted r (outcomes.breaks e) k q a h l = false≢true (sym e ∙ k)
-  is-accepted r (outcomes.cramped e w) k q a h l = omega arith
-  is-accepted r (outcomes.rejects e w n o z) k q a h l = z (only o ∙ accepted a)
-  is-accepted r (outcomes.does e w b n o) k q a h l = answered-range o h l
+  is-accepted r (outcomes.breaks e) k q a = absurd (false≢true (sym e ∙ k))
+  is-accepted r (outcomes.cramped e w) k q a = absurd (omega arith)
+  is-accepted r (outcomes.rejects e w n o z) k q a = absurd (z (only-under t p o ∙ accepted-under t p a))
+  is-accepted r (outcomes.does e w b n o) k q a = answered-accepted o
 
-  pub accepted-if : keepsRules c run ≡ true → 260 ≤ room → Accepts p → None20to29 (packetStepOf c run p room .answer .answer)
+  pub accepted-if : keepsRules c run ≡ true → stepRoom ≤ room → AcceptsUnder t p → isAccepted (packetStepOf c run p room .answer .answer) ≡ true
   accepted-if = is-accepted (packetStepOf c run p room) (packet-steps c run p room)
 
   -- else, on such a state, it gets the first refusal in the order of the judge's rules, and no other
-  is-refused : (r : Stepped) → PacketSteps c run p room r → keepsRules c run ≡ true → 260 ≤ room → (n : ℕ) → Outcome p n → (n ≡ 0 → ⊥) → r .answer .answer ≡ n
+  is-refused : (r : Stepped) → PacketSteps c run p room r → keepsRules c run ≡ true → stepRoom ≤ room → (n : ℕ) → OutcomeUnder t p n → (n ≡ 0 → ⊥) → r .answer .answer ≡ n
   unfolding rejectedStep
   is-refused r (outcomes.breaks e) k q n o z = absurd (false≢true (sym e ∙ k))
   is-refused r (outcomes.cramped e w) k q n o z = absurd (omega arith)
-  is-refused r (outcomes.rejects e w m b y) k q n o z = only b ∙ sym (only o)
-  is-refused r (outcomes.does e w b m d) k q n o z = absurd (z (only o ∙ accepted b))
+  is-refused r (outcomes.rejects e w m b y) k q n o z = only-under t p b ∙ sym (only-under t p o)
+  is-refused r (outcomes.does e w b m d) k q n o z = absurd (z (only-under t p o ∙ accepted-under t p b))
 
-  pub refused-first : keepsRules c run ≡ true → 260 ≤ room → (n : ℕ) → Outcome p n → (n ≡ 0 → ⊥) → packetStepOf c run p room .answer .answer ≡ n
+  pub refused-first : keepsRules c run ≡ true → stepRoom ≤ room → (n : ℕ) → OutcomeUnder t p n → (n ≡ 0 → ⊥) → packetStepOf c run p room .answer .answer ≡ n
   refused-first = is-refused (packetStepOf c run p room) (packet-steps c run p room)
 
   -- ---- a dispatched packet: let past, no own id, routed; its id, its route's destination, 5 + count bytes
@@ -76,11 +76,11 @@ module _ (c : Config) (run : Run) (p : List ℕ) (room : ℕ) where
   unfolding rejectedStep
   dispatched-as r (outcomes.breaks e) h = absurd (omega arith)
   dispatched-as r (outcomes.cramped e q) h = absurd (omega arith)
-  dispatched-as r (outcomes.rejects e q n o z) h = absurd (omega (arith, refused-range o z))
+  dispatched-as r (outcomes.rejects e q n o z) h = absurd (not-under t p o z 10 refl h)
   dispatched-as r (outcomes.does e q a n (stopped b)) h = absurd (omega arith)
   dispatched-as r (outcomes.does e q a n (miscounted b k d f)) h = absurd (omega arith)
   dispatched-as r (outcomes.does e q a n (no-row b k d f g i)) h = absurd (omega arith)
-  dispatched-as r (outcomes.does e q a n (row-done b k d f g i)) h = absurd (omega arith)
+  dispatched-as r (outcomes.does e q a n (row-done b k d f g place i)) h = absurd (omega arith)
   dispatched-as r (outcomes.does e q a n (arm-taken b d f)) h = absurd (omega arith)
   dispatched-as r (outcomes.does e q a n (own-done b k d f g i)) h = absurd (omega arith)
   dispatched-as r (outcomes.does e q a n (no-route b d f)) h = absurd (omega arith)
@@ -122,26 +122,31 @@ unfolding packetOutput
 packet-carries t p out = carries (t .ground) (commandId p) (argumentsOf p) out
 
 -- a response carries the fault source, the row's own command id and its own arguments
-pub fault-carries : (t : Tables) (f : ℕ) (out : List ℕ) → Carries (t .fault) (rowFor f (t .rows) .response) (rowFor f (t .rows) .args) out (faultOutput t 10 f out)
+pub fault-carries : (t : Tables) (f : ℕ) (out : List ℕ) → let row = rowFor (meant t f) (t .rows) in Carries (t .fault) (row .response) (row .args) out (faultOutput t 10 f out)
 unfolding faultOutput
-fault-carries t f out = carries (t .fault) (rowFor f (t .rows) .response) (rowFor f (t .rows) .args) out
+fault-carries t f out = let row = rowFor (meant t f) (t .rows) in carries (t .fault) (row .response) (row .args) out
 
--- ---- a dispatched fault: listed, enabled; its row's response, that route's destination, 5 + count bytes
+-- ---- a dispatched fault: its id means a row, which is enabled; that row's response, its route's destination, 5 + count bytes
 
 module _ (c : Config) (run : Run) (f room : ℕ) where
+  abbrev row : ℕ → FaultRow
+  row k = getD (tablesOf c .rows) k noRow
+
   pub record Responded (r : Stepped) : Type 0 where
-    pub listed : member f (map faultId (tablesOf c .rows)) ≡ true
-    pub was-enabled : stateFor f (tablesOf c .rows) (run .states) ≡ enabled
-    pub id-is : r .answer .id ≡ rowFor f (tablesOf c .rows) .response
-    pub dest-is : r .answer .dest ≡ destOf (rowFor f (tablesOf c .rows) .response) (tablesOf c .routes)
-    pub written-is : r .answer .written ≡ 5 + length (rowFor f (tablesOf c .rows) .args)
+    pub place : ℕ
+    pub listed : meant (tablesOf c) f ≡ some place
+    pub was-enabled : getD (run .states) place 0 ≡ enabled
+    pub id-is : r .answer .id ≡ row place .response
+    pub dest-is : r .answer .dest ≡ destOf (row place .response) (tablesOf c .routes)
+    pub written-is : r .answer .written ≡ 5 + length (row place .args)
 
   responded-as : (r : Stepped) → FaultSteps c run f room r → r .answer .answer ≡ 10 → Responded r
   responded-as r (outcomes.breaks e) h = absurd (omega arith)
   responded-as r (outcomes.cramped e q) h = absurd (omega arith)
   responded-as r (outcomes.does e q n (unlisted m)) h = absurd (omega arith)
-  responded-as r (outcomes.does e q n (quiet m s)) h = absurd (omega arith)
-  responded-as r (outcomes.does e q n (responds m s)) h = record { listed = m; was-enabled = s; id-is = refl; dest-is = refl; written-is = refl }
+  responded-as r (outcomes.does e q n (quiet k m s)) h = absurd (omega arith)
+  responded-as r (outcomes.does e q n (responds k m s)) h =
+      record { place = k; listed = m; was-enabled = s; id-is = rw m; dest-is = rw m; written-is = rw m }
 
   pub responded : faultStepOf c run f room .answer .answer ≡ 10 → Responded (faultStepOf c run f room)
   responded = responded-as (faultStepOf c run f room) (fault-steps c run f room)

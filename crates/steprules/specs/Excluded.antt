@@ -1,6 +1,6 @@
 -- Document 01, "Readings that the rules exclude": a theorem for each line, against the reading that it shuts out.
-use mathlib.Core.Path.{_≡_, sym, ap}
-use mathlib.Core.Bool.{true, false}
+use mathlib.Core.Path.{_≡_, refl, sym, ap, _∙_}
+use mathlib.Core.Bool.{true, false, false≢true}
 use mathlib.Core.List.{List}
 use Prim.Native.Nat.{ℕ, _+_, _-_, _≤_}
 use native.Mathlib.Omega.{arith}
@@ -11,10 +11,11 @@ use Rattle.wire.specs.Xor.{xorAll}
 use Rattle.packetrules.specs.Layout.{dataLength, pads, padPart}
 use Rattle.packetrules.specs.Judge.{argumentsOf}
 use Rattle.packetrules.specs.Outcome.{Accepts}
+use Rattle.packetrules.specs.Rejection.{isRejection}
 use Rattle.packetrules.specs.Parts.{argument-count, xor-with-pads}
 use Rattle.state.specs.declared.types.Config.{Config}
 use Rattle.state.specs.declared.types.Run.{Run}
-use Rattle.state.specs.Tables.{Tables}
+use Rattle.state.specs.Tables.{Tables, tablesOf}
 use Rattle.steprules.specs.declared.types.Stepped.{Stepped}
 use Rattle.arming.specs.declared.Ticked.{Ticked}
 use Rattle.arming.specs.Arming.{unarmed, armSet, armAfter, tickAnswer}
@@ -23,7 +24,8 @@ use Rattle.answers.specs.Answers.{blocked, answerTo}
 use Rattle.steprules.specs.Step.{packetStepOf, faultStepOf, rejectedStep, tickStep}
 use Rattle.steprules.specs.Outcome.{only, stopped, PacketSteps, packet-steps}
 use Rattle.steprules.specs.Outcome as outcomes
-use Rattle.steprules.specs.Demand1.{refused-range, rejected-moves-only-r, undispatched-fault-leaves-states}
+use Rattle.steprules.specs.Packets.{isAccepted, rejects-under, rejected-not}
+use Rattle.steprules.specs.Demand1.{rejected-moves-only-r, undispatched-fault-leaves-states}
 
 -- "Counting pads as arguments": arguments, pads and the four bytes before them are the whole data
 pub pads-are-no-arguments : {p : List ℕ} → Accepts p → length (argumentsOf p) + pads p + 4 ≡ dataLength p
@@ -34,20 +36,20 @@ pub pads-are-in-the-xor : {p : List ℕ} → Accepts p → bitXor (xorAll (take 
 pads-are-in-the-xor a = xor-with-pads a
 
 -- "Letting a rejected packet unarm"
-pub rejected-leaves-arm : (c : Config) (run : Run) (p : List ℕ) (room : ℕ) → 22 ≤ packetStepOf c run p room .answer .answer → packetStepOf c run p room .answer .answer ≤ 29
+pub rejected-leaves-arm : (c : Config) (run : Run) (p : List ℕ) (room : ℕ) → isRejection (packetStepOf c run p room .answer .answer) ≡ true
     → packetStepOf c run p room .run .arm ≡ run .arm
-rejected-leaves-arm c run p room h l = ap (λ (r : Run). r .arm) (rejected-moves-only-r c run p room h l)
+rejected-leaves-arm c run p room h = ap (λ (r : Run). r .arm) (rejected-moves-only-r c run p room h)
 
 -- ".. or letting an unregistered id stay armed": every accepted packet but an arm that was taken leaves the path unarmed
 module _ (c : Config) (run : Run) (p : List ℕ) (room : ℕ) where
-  unarms : (r : Stepped) → PacketSteps c run p room r → (20 ≤ r .answer .answer → r .answer .answer ≤ 29 → ⊥) → (r .answer .answer ≡ 11 → ⊥) → r .run .arm ≡ unarmed
+  unarms : (r : Stepped) → PacketSteps c run p room r → isAccepted (r .answer .answer) ≡ true → (r .answer .answer ≡ 11 → ⊥) → r .run .arm ≡ unarmed
   unfolding rejectedStep armAfter armSet
-  unarms r (outcomes.breaks e) h z = absurd (h (omega arith) (omega arith))
-  unarms r (outcomes.cramped e q) h z = absurd (h (omega arith) (omega arith))
-  unarms r (outcomes.rejects e q n o y) h z = absurd (h (omega (arith, refused-range o y)) (omega (arith, refused-range o y)))
+  unarms r (outcomes.breaks e) h z = absurd (false≢true h)
+  unarms r (outcomes.cramped e q) h z = absurd (false≢true h)
+  unarms r (outcomes.rejects e q n o y) h z = absurd (false≢true (sym (rejected-not n (rejects-under (tablesOf c) p o y)) ∙ h))
   unarms r (outcomes.does e q a n o) h z = simp (ne-eqb n 11 z)
 
-  pub accepted-unarms : (20 ≤ packetStepOf c run p room .answer .answer → packetStepOf c run p room .answer .answer ≤ 29 → ⊥)
+  pub accepted-unarms : isAccepted (packetStepOf c run p room .answer .answer) ≡ true
       → (packetStepOf c run p room .answer .answer ≡ 11 → ⊥) → packetStepOf c run p room .run .arm ≡ unarmed
   accepted-unarms = unarms (packetStepOf c run p room) (packet-steps c run p room)
 

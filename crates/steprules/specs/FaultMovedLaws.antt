@@ -2,20 +2,18 @@
 use mathlib.Core.Path.{_≡_, refl, sym, ap, _∙_}
 use mathlib.Core.List.{List}
 use Prim.Native.Nat.{ℕ, _+_, _*_, _<_, _≤_}
-use native.Mathlib.Omega.{arith}
 use lib.ListN.{length, getD, set, take, drop, length-set}
 use Rattle.state.specs.declared.types.Config.{Config}
 use Rattle.state.specs.declared.types.Run.{Run}
-use Rattle.state.specs.Tables.{FaultRow, tablesOf}
-use Rattle.state.specs.Sized.{SizedRun}
+use Rattle.state.specs.Tables.{FaultRow, tablesOf, runFrom}
 use Rattle.state.specs.Lookup.{placeIn}
 use Rattle.state.specs.Columns.{route-column}
 use Rattle.faultstates.specs.FaultStates.{fault, rowAfter}
-use Rattle.dispatch.specs.Dispatch.{commandBytes, over}
+use Rattle.dispatch.specs.Dispatch.{Wrote}
 use Rattle.answers.specs.AnswerLaws.{route-dest}
-use Rattle.steprules.specs.Bare.{bareAnswer}
+use Rattle.steprules.specs.Makers.{bareAnswer, dispatchedAnswer}
 use Rattle.steprules.specs.FaultStepLaws.{silentStep, fault-unsent, fault-unknown, fault-silent, fault-sent, fault-output}
-use Rattle.steprules.specs.Found.{unknown, known, row-is, state-is, row-acts}
+use Rattle.steprules.specs.Found.{row-here, unknown, known}
 use Rattle.steprules.specs.Moved.{FaultMoves}
 
 module _ (c : Config) (before : List ℕ) (f : ℕ) (out : List ℕ) (k : ℕ) (e : k ≡ placeIn f (take (c .numbers .nrows) (c .faultids))) where
@@ -24,7 +22,7 @@ module _ (c : Config) (before : List ℕ) (f : ℕ) (out : List ℕ) (k : ℕ) (
   moves-34 h =
       record {
         step = λ arm counts keeps sized.
-            (fault-unknown (tablesOf c) (record { arm = arm; counts = counts; states = before }) f (unknown keeps sized f k e h), fault-unsent (tablesOf c) f out 34 34 refl refl);
+            (fault-unknown (tablesOf c) (runFrom arm counts before) f (unknown keeps sized f k e h), fault-unsent (tablesOf c) f out 34 34 refl refl);
         long = refl;
       }
 
@@ -34,28 +32,28 @@ module _ (c : Config) (before : List ℕ) (f : ℕ) (out : List ℕ) (k : ℕ) (
     moves-13 d =
         record {
           step = λ arm counts keeps sized.
-              (fault-silent (tablesOf c) (record { arm = arm; counts = counts; states = before }) f (known keeps sized f k e h) (λ q. d (sym (state-is keeps sized f k e h) ∙ q)), fault-unsent (tablesOf c) f out 13 13 refl refl);
+              (fault-silent (tablesOf c) (runFrom arm counts before) f k (known keeps sized f k e h) d, fault-unsent (tablesOf c) f out 13 13 refl refl);
           long = refl;
         }
 
-    pub moves-sent : getD before k 0 ≡ 1 → length before ≡ 32 → (at written v : ℕ) (left : List ℕ)
+    pub moves-sent : getD before k 0 ≡ 1 → (at written v : ℕ) (left : List ℕ)
         → at ≡ placeIn (getD (c .responses) k 0) (take (c .numbers .nroutes) (c .routeids)) → at < c .numbers .nroutes
-        → (written ≡ 5 + length (take (getD (c .argcounts) k 0) (drop (k * 16) (c .args))))
-        × (left ≡ over (commandBytes (c .numbers .fault) (getD (c .responses) k 0) (take (getD (c .argcounts) k 0) (drop (k * 16) (c .args)))) out)
+        → Wrote (c .numbers .fault) (getD (c .responses) k 0) (take (getD (c .argcounts) k 0) (drop (k * 16) (c .args))) out written left
         → v ≡ rowAfter (getD (c .latching) k 0) (getD before k 0) fault
-        → FaultMoves c before f out (record { answer = 10; id = getD (c .responses) k 0; dest = getD (c .dests) at 0; written = written }) (set before k v) left
-    moves-sent on z at written v left ea la (ew, eo) ev =
+        → FaultMoves c before f out (dispatchedAnswer (getD (c .responses) k 0) (getD (c .dests) at 0) written) (set before k v) left
+    moves-sent on at written v left ea la (ew, eo) ev =
         record {
           step = λ arm counts keeps sized.
-              let run : Run = record { arm = arm; counts = counts; states = before } in
-              let row = row-is keeps sized f k e h in (
-                fault-sent (tablesOf c) run f (known keeps sized f k e h) (state-is keeps sized f k e h ∙ on)
-                    (ap (λ (r : FaultRow). r .response) (sym row))
+              let run : Run = runFrom arm counts before in
+              let here = known keeps sized f k e h in
+              let row = sym (row-here keeps sized k h) in (
+                fault-sent (tablesOf c) run f k here on
+                    (ap (λ (r : FaultRow). r .response) row)
                     (route-dest (route-column keeps sized) (getD (c .responses) k 0) at ea (c .dests) la)
-                    (ew ∙ ap (λ (r : FaultRow). 5 + length (r .args)) (sym row))
+                    (ew ∙ ap (λ (r : FaultRow). 5 + length (r .args)) row)
                     refl
-                    (ap (set before k) ev ∙ row-acts keeps sized f k e h fault (record { states-32 = z })),
-                eo ∙ fault-output (tablesOf c) run f out _ _ (ap (λ (r : FaultRow). r .response) (sym row)) (ap (λ (r : FaultRow). r .args) (sym row)),
+                    (ap (set before k) (ev ∙ ap (λ (r : FaultRow). rowAfter (r .latching) (getD before k 0) fault) row)),
+                eo ∙ fault-output (tablesOf c) run f k here out _ _ (ap (λ (r : FaultRow). r .response) row) (ap (λ (r : FaultRow). r .args) row),
               );
           long = length-set before k v;
         }

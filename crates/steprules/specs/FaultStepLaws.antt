@@ -1,17 +1,17 @@
 -- The parts that make up a fault step: a fault that sends nothing on, and a response that is dispatched.
 use mathlib.Core.Path.{_≡_, refl, ap, _∙_}
-use mathlib.Core.Bool.{true, false}
-use mathlib.Core.List.{List, map}
+use mathlib.Core.Bool.{false}
+use mathlib.Core.Option.{none, some}
+use mathlib.Core.List.{List}
 use Prim.Native.Nat.{ℕ, _+_}
 use lib.Dec.{eqb}
-use lib.ListN.{length}
+use lib.ListN.{length, getD}
 use Rattle.state.specs.declared.types.Run.{Run}
 use Rattle.state.specs.declared.types.Counts.{Counts}
-use Rattle.state.specs.Tables.{Tables, faultId}
-use Rattle.state.specs.Rules.{member}
+use Rattle.state.specs.Tables.{FaultRow, Tables, runFrom, withCounts}
 use Rattle.steprules.specs.declared.types.Stepped.{Stepped}
-use Rattle.steprules.specs.Bare.{bareAnswer}
-use Rattle.faultstates.specs.FaultStates.{enabled, fault, actOn, rowFor, stateFor}
+use Rattle.steprules.specs.Makers.{bareAnswer, dispatchedAnswer, stepFrom}
+use Rattle.faultstates.specs.FaultStates.{enabled, meant, noRow, latchedBy}
 use Rattle.counters.specs.Counters.{faultCounts}
 use Rattle.dispatch.specs.Dispatch.{commandBytes, over, sent, destOf}
 use Rattle.dispatch.specs.DispatchLaws.{sent-10}
@@ -19,11 +19,7 @@ use Rattle.answers.specs.AnswerLaws.{fault-34, fault-13, fault-10}
 use Rattle.steprules.specs.Step.{faultStep, faultOutput}
 
 unfoldable pub silentStep : Run → ℕ → Stepped
-silentStep run n =
-    record {
-      run = record { arm = run .arm; counts = faultCounts n (run .counts); states = run .states };
-      answer = bareAnswer n;
-    }
+silentStep run n = stepFrom (withCounts (faultCounts n (run .counts)) run) (bareAnswer n)
 
 -- what an answer that is no 10 leaves of the output
 module _ (t : Tables) (f : ℕ) (out : List ℕ) where
@@ -37,29 +33,32 @@ module _ (t : Tables) (f : ℕ) (out : List ℕ) where
 
 module _ (t : Tables) (run : Run) (f : ℕ) where
   -- a fault id that no row has
-  pub fault-unknown : member f (map faultId (t .rows)) ≡ false → silentStep run 34 ≡ faultStep t run f
+  pub fault-unknown : meant t f ≡ none → silentStep run 34 ≡ faultStep t run f
   unfolding silentStep faultStep
-  fault-unknown h = rw (← fault-34 (t .rows) (run .states) f h)
+  fault-unknown e = rw (← fault-34 (run .states) e)
 
-  -- a row that is not enabled
-  pub fault-silent : member f (map faultId (t .rows)) ≡ true → (stateFor f (t .rows) (run .states) ≡ enabled → ⊥) → silentStep run 13 ≡ faultStep t run f
-  unfolding silentStep faultStep
-  fault-silent m h = rw (← fault-13 (t .rows) (run .states) f m h)
+  module _ (k : ℕ) (e : meant t f ≡ some k) where
+    -- a row that is not enabled
+    pub fault-silent : (getD (run .states) k 0 ≡ enabled → ⊥) → silentStep run 13 ≡ faultStep t run f
+    unfolding silentStep faultStep
+    fault-silent h = rw (← fault-13 (run .states) k e h)
 
-  -- a row that is enabled
-  pub fault-sent : {id dest written : ℕ} {counts : Counts} {states : List ℕ}
-      → member f (map faultId (t .rows)) ≡ true
-      → stateFor f (t .rows) (run .states) ≡ enabled
-      → id ≡ rowFor f (t .rows) .response
-      → dest ≡ destOf id (t .routes)
-      → written ≡ 5 + length (rowFor f (t .rows) .args)
-      → counts ≡ faultCounts 10 (run .counts)
-      → states ≡ actOn fault f (t .rows) (run .states)
-      → record { run = record { arm = run .arm; counts = counts; states = states }; answer = record { answer = 10; id = id; dest = dest; written = written } } ≡ faultStep t run f
-  unfolding faultStep
-  fault-sent m s ei ed ew ec es = rw (← fault-10 (t .rows) (run .states) f m s, ed, ei, ew, ec, es)
+    abbrev row : FaultRow
+    row = getD (t .rows) k noRow
 
-  pub fault-output : (out : List ℕ) (id : ℕ) (args : List ℕ) → id ≡ rowFor f (t .rows) .response → args ≡ rowFor f (t .rows) .args → over (commandBytes (t .fault) id args) out ≡ faultOutput t 10 f out
-  unfolding faultOutput
-  fault-output out id args ei ea =
-      sent-10 10 (t .fault) id args out refl ∙ rw (ei, ea)
+    -- a row that is enabled
+    pub fault-sent : {id dest written : ℕ} {counts : Counts} {states : List ℕ}
+        → getD (run .states) k 0 ≡ enabled
+        → id ≡ row .response
+        → dest ≡ destOf id (t .routes)
+        → written ≡ 5 + length (row .args)
+        → counts ≡ faultCounts 10 (run .counts)
+        → states ≡ latchedBy (t .rows) (some k) (run .states)
+        → stepFrom (runFrom (run .arm) counts states) (dispatchedAnswer id dest written) ≡ faultStep t run f
+    unfolding faultStep
+    fault-sent s ei ed ew ec es = rw (← fault-10 (run .states) k e s, ed, ei, ew, ec, es, e)
+
+    pub fault-output : (out : List ℕ) (id : ℕ) (args : List ℕ) → id ≡ row .response → args ≡ row .args → over (commandBytes (t .fault) id args) out ≡ faultOutput t 10 f out
+    unfolding faultOutput
+    fault-output out id args ei ea =
+        sent-10 10 (t .fault) id args out refl ∙ rw (ei, ea, e)

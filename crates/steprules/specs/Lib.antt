@@ -1,4 +1,5 @@
-pub mod Bare
+pub mod Makers
+pub mod Packets
 pub mod Step
 pub mod StateLaws
 pub mod StepLaws

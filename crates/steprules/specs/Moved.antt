@@ -12,7 +12,7 @@ use Rattle.state.specs.declared.types.Numbers.{Numbers}
 use Rattle.state.specs.declared.types.Config.{Config}
 use Rattle.state.specs.declared.types.Arm.{Arm}
 use Rattle.state.specs.declared.types.Counts.{Counts}
-use Rattle.state.specs.Tables.{tablesOf}
+use Rattle.state.specs.Tables.{tablesOf, runFrom}
 use Rattle.state.specs.Keeps.{Keeps}
 use Rattle.state.specs.Sized.{Sized}
 use Rattle.state.specs.Rules.{member}
@@ -20,15 +20,15 @@ use Rattle.state.specs.Lookup.{Column}
 use Rattle.steprules.specs.declared.types.Answer.{Answer}
 use Rattle.steprules.specs.declared.types.Stepped.{Stepped}
 use Rattle.steprules.specs.declared.types.Moved.{Moved}
-use Rattle.steprules.specs.Bare.{bareAnswer}
+use Rattle.steprules.specs.Makers.{answerFrom, bareAnswer, namedAnswer, stepFrom, movedFrom}
 use Rattle.arming.specs.Arming.{armAfter}
 use Rattle.counters.specs.Counters.{movedCounts, faultCounts}
 use Rattle.dispatch.specs.Dispatch.{for10}
+use Rattle.faultstates.specs.FaultStates.{placeOf, isPlace, commanded}
 use Rattle.answers.specs.declared.own.Own.{Own}
 use Rattle.answers.specs.Own.{isReset, faultArg}
 use Rattle.answers.specs.Answers.{ownAnswer}
-use Rattle.steprules.specs.Step.{packetStep, packetOutput, faultStep, faultOutput}
-use Rattle.steprules.specs.StateLaws.{actById, statesOn}
+use Rattle.steprules.specs.Step.{statesAfter, packetStep, packetOutput, faultStep, faultOutput}
 
 -- no state is above 2, so that each has its row in the table of events
 pub record StatesLent (states : List ℕ) : Type 0 where
@@ -40,41 +40,33 @@ pub record StatesLent (states : List ℕ) : Type 0 where
 -- an accepted packet that gets the answer n; k is what its id selects
 abbrev pub movedBy : ℕ → Option Own → ℕ → List ℕ → ℕ → Moved
 movedBy n k id args dest =
-    record {
-      arm = armAfter n args;
-      reset = eqb n 12 && isReset k;
-      answer = record { answer = n; id = id; dest = for10 n dest; written = for10 n (5 + length args) };
-    }
+    movedFrom (armAfter n args) (eqb n 12 && isReset k) (answerFrom n id (for10 n dest) (for10 n (5 + length args)))
 
 -- an accepted packet that is not sent on
 abbrev pub quietly : ℕ → ℕ → List ℕ → Bool → Moved
-quietly n id args reset = record { arm = armAfter n args; reset = reset; answer = record { answer = n; id = id; dest = 0; written = 0 } }
+quietly n id args reset = movedFrom (armAfter n args) reset (namedAnswer n id)
 
 -- a rejected packet leaves the arm record
 abbrev pub rejectedBy : Arm → ℕ → Moved
-rejectedBy arm n = record { arm = arm; reset = false; answer = bareAnswer n }
+rejectedBy arm n = movedFrom arm false (bareAnswer n)
 
 -- an own command: what it hands back, and the states that it leaves
 pub record OwnMoves (ids : List ℕ) (k : Own) (id : ℕ) (args before : List ℕ) (r : Moved) (after : List ℕ) : Type 0 where
   pub moved : r ≡ movedBy (ownAnswer ids k args) (some k) id args 0
-  pub states : after ≡ statesOn ids (ownAnswer ids k args) (some k) args before
+  pub states : after ≡ statesAfter ids (ownAnswer ids k args) (some k) args before
 
--- an event on the row of the fault id in the arguments, which takes two: 32 where no row has it
+-- an event on the row that the fault id in the arguments means: 32 where it means none
 pub record RowMoves (ids : List ℕ) (e id : ℕ) (args before : List ℕ) (r : Moved) (after : List ℕ) : Type 0 where
-  pub moved : r ≡ quietly (check (member (faultArg args) ids) 32 12) id args false
-  pub states : after ≡ actById e (faultArg args) ids before
+  pub moved : r ≡ quietly (check (isPlace (placeOf (faultArg args) ids)) 32 12) id args false
+  pub states : after ≡ commanded e (placeOf (faultArg args) ids) before
 
 -- the step that it was, on counters that the caller had
 abbrev pub leftBy : Counts → Moved → List ℕ → Stepped
-leftBy counts r states =
-    record {
-      run = record { arm = r .arm; counts = movedCounts (r .answer .answer) (r .reset) counts; states = states };
-      answer = r .answer;
-    }
+leftBy counts r states = stepFrom (runFrom (r .arm) (movedCounts (r .answer .answer) (r .reset) counts) states) (r .answer)
 
 -- the packet step, whatever the counters were, and its output
 pub record PacketMoves (c : Config) (arm : Arm) (before p out : List ℕ) (r : Moved) (after left : List ℕ) : Type 0 where
-  pub step : (counts : Counts) → leftBy counts r after ≡ packetStep (tablesOf c) (record { arm = arm; counts = counts; states = before }) p
+  pub step : (counts : Counts) → leftBy counts r after ≡ packetStep (tablesOf c) (runFrom arm counts before) p
   pub output : left ≡ packetOutput (tablesOf c) (r .answer .answer) p out
   pub long : length after ≡ length before
 
@@ -93,12 +85,11 @@ pub record RowsLent (n : Numbers) (routeids dests faultids responses latching ar
   pub routed : (k : ℕ) → k < n .nrows → member (getD responses k 0) (take (n .nroutes) routeids) ≡ true
 
 abbrev pub faultLeft : Arm → Counts → Answer → List ℕ → Stepped
-faultLeft arm counts r states =
-    record { run = record { arm = arm; counts = faultCounts (r .answer) counts; states = states }; answer = r }
+faultLeft arm counts r states = stepFrom (runFrom arm (faultCounts (r .answer) counts) states) r
 
 -- the fault step, whatever arm record and counters were, and its output
 pub record FaultMoves (c : Config) (before : List ℕ) (f : ℕ) (out : List ℕ) (r : Answer) (after left : List ℕ) : Type 0 where
-  pub step : (arm : Arm) (counts : Counts) → Keeps c (record { arm = arm; counts = counts; states = before }) → Sized c
-      → (faultLeft arm counts r after ≡ faultStep (tablesOf c) (record { arm = arm; counts = counts; states = before }) f)
+  pub step : (arm : Arm) (counts : Counts) → Keeps c (runFrom arm counts before) → Sized c
+      → (faultLeft arm counts r after ≡ faultStep (tablesOf c) (runFrom arm counts before) f)
       × (left ≡ faultOutput (tablesOf c) (r .answer) f out)
   pub long : length after ≡ length before

@@ -4,40 +4,39 @@ use mathlib.Core.Bool.{Bool, true, false, cond, not, _&&_, _||_, false≢true}
 use mathlib.Core.Logic.{_⊎_, inl, inr}
 use mathlib.Core.Option.{Option, none, some}
 use mathlib.Core.List.{List, map}
-use Prim.Native.Nat.{ℕ, _+_, _-_, _<_, _≤_}
+use Prim.Native.Nat.{ℕ, _-_, _<_, _≤_}
 use native.Mathlib.Omega.{arith}
 use lib.Dec.{eqb}
 use lib.ListN.{length, getD, set, take}
-use lib.Seq.{length-take-le}
 use borrow.Author.Tests.{eq-eqb, ne-eqb, leb-true, le-leb, lt-leb}
 use Rattle.wire.specs.Check.{check}
 use Rattle.packetrules.specs.Layout.{commandId}
-use Rattle.packetrules.specs.Judge.{refusalOf, argumentsOf}
-use Rattle.packetrules.specs.Outcome.{Outcome, BadForm, not-version-0, not-telecommand, not-secondary, not-xor-0, below-6, not-whole, bad-form, no-room, too-many, taken}
-use Rattle.packetrules.specs.Laws.{outcome}
+use Rattle.packetrules.specs.Judge.{argumentsOf}
+use Rattle.packetrules.specs.Rejection.{isRejection, rejection-not}
 use Rattle.state.specs.declared.types.Config.{Config}
 use Rattle.state.specs.declared.types.Run.{Run}
 use Rattle.state.specs.declared.types.Arm.{Arm}
 use Rattle.state.specs.declared.types.Counts.{Counts}
-use Rattle.state.specs.Tables.{tablesOf}
+use Rattle.state.specs.Tables.{tablesOf, runFrom}
 use Rattle.state.specs.Rules.{member}
-use Rattle.state.specs.Lookup.{placeIn, Column}
-use Rattle.state.specs.LookupLaws.{is-member, no-member}
+use Rattle.state.specs.Lookup.{placeIn}
 use Rattle.state.specs.ArrayLaws.{routed-is, fault-ids-are}
 use Rattle.steprules.specs.declared.types.Moved.{Moved}
 use Rattle.arming.specs.Arming.{armAfter}
-use Rattle.counters.specs.Counters.{noCounts, accepted, rejection, packetCounts, rejectedCounts, movedCounts}
-use Rattle.dispatch.specs.Dispatch.{for10, destOf, sent, over, commandBytes}
+use Rattle.counters.specs.Counters.{noCounts, acceptedCounts, packetCounts, rejectedCounts, movedCounts}
+use Rattle.dispatch.specs.Dispatch.{Wrote, destOf, sent}
 use Rattle.dispatch.specs.DispatchLaws.{sent-not, sent-10}
-use Rattle.faultstates.specs.FaultStates.{nextState}
+use Rattle.faultstates.specs.FaultStates.{nextState, placeOf, isPlace, commanded}
 use Rattle.answers.specs.declared.own.Own.{Own}
 use Rattle.answers.specs.Own.{ruleOf, ownCommand, isReset, faultArg}
 use Rattle.answers.specs.Answers.{blocked, ownAnswer, routeAnswer, answerFor}
 use Rattle.answers.specs.OwnLaws.{done-is, resets-12, own-31, own-32, own-row, own-taken, own-not-10}
 use Rattle.answers.specs.AnswerLaws.{answer-30, answer-own, answer-route, Lent, route-none, route-found, route-dest}
-use Rattle.steprules.specs.Step.{statesBy, acceptedStep, rejectedStep, packetStep, packetOutput}
-use Rattle.steprules.specs.StateLaws.{actById, act-absent, act-at, statesOn, states-long, states-same, states-12, states-done}
+use Rattle.steprules.specs.Step.{statesAfter, acceptedStep, rejectedStep, packetStep, packetOutput}
+use Rattle.steprules.specs.StateLaws.{doneOn, states-long, states-same, states-12, states-done}
 use Rattle.steprules.specs.StepLaws.{accepted-is, packet-rejected, packet-accepted}
+use Rattle.steprules.specs.Packets.{refusalUnder, outcome-under, rejects-under}
+use Rattle.steprules.specs.Makers.{dispatchedAnswer, movedFrom}
 use Rattle.steprules.specs.Moved.{movedBy, quietly, rejectedBy, OwnMoves, RowMoves, leftBy, PacketMoves}
 
 -- ---- an answer that sends nothing on
@@ -48,6 +47,9 @@ quiet-is n k id args dest reset a e = simp (ne-eqb n 10 a, e)
 -- ---- an own command
 
 module _ (ids : List ℕ) (id : ℕ) (args ss : List ℕ) where
+  abbrev place : Option ℕ
+  place = placeOf (faultArg args) ids
+
   module _ (k : Own) where
     not-sent-on : ownAnswer ids k args ≡ 10 → ⊥
     not-sent-on z = false≢true (sym (own-not-10 ids k args) ∙ eq-eqb _ 10 z)
@@ -69,7 +71,7 @@ module _ (ids : List ℕ) (id : ℕ) (args ss : List ℕ) where
     counted = e ∙ ap (λ (c : Own). ruleOf c .wanted) known
 
     -- one that acts on no row is done
-    pub own-moves-off : ruleOf k .onRow ≡ false → OwnMoves ids command id args ss (quietly (ruleOf k .done) id args (ruleOf k .resets)) (statesBy (λ e. actById e (faultArg args) ids ss) k ss)
+    pub own-moves-off : ruleOf k .onRow ≡ false → OwnMoves ids command id args ss (quietly (ruleOf k .done) id args (ruleOf k .resets)) (doneOn place k ss)
     own-moves-off r =
         let n = own-taken ids k args counted r in
         rw known
@@ -79,82 +81,60 @@ module _ (ids : List ℕ) (id : ℕ) (args ss : List ℕ) where
         })
 
     -- one that acts on a row does so by its event
-    pub own-moves-on : (event : ℕ) → ruleOf k .onRow ≡ true → ruleOf k .resets ≡ false → statesBy (λ e. actById e (faultArg args) ids ss) k ss ≡ actById event (faultArg args) ids ss
+    pub own-moves-on : (event : ℕ) → ruleOf k .onRow ≡ true → ruleOf k .resets ≡ false → doneOn place k ss ≡ commanded event place ss
         → {r : Moved} {after : List ℕ} → RowMoves ids event id args ss r after → OwnMoves ids command id args ss r after
-    own-moves-on event o q b {r} {after} m = rw known (go (member (faultArg args) ids) refl)
+    own-moves-on event o q b {r} {after} m = rw known (go place refl)
       where
-        go : (f : Bool) → member (faultArg args) ids ≡ f → OwnMoves ids k id args ss r after
-        go false f =
+        go : (f : Option ℕ) → place ≡ f → OwnMoves ids k id args ss r after
+        go none f =
             let s = still k 32 (own-32 ids k args counted o f) (λ e. omega arith) in
-            record { moved = m .moved ∙ rw f (s .moved); states = m .states ∙ act-absent event (faultArg args) ids ss f ∙ s .states }
-        go true f =
-            let n = own-row ids k args counted o f in
+            record { moved = m .moved ∙ rw f (s .moved); states = m .states ∙ rw f (s .states) }
+        go (some at) f =
+            let n = own-row ids k args counted o at f in
             record {
               moved = m .moved ∙ rw f (rw (← n) (quiet-is 12 (some k) id args 0 false (λ z. omega arith) (sym q)));
               states = m .states ∙ rw (← n) (sym b ∙ states-12 ids args ss k);
             }
 
-  -- the row at the place found, and no row where none is found
+  -- an event on the row at the place found, and on none where none is found
   module _ (event : ℕ) where
-    pub row-moves-32 : member (faultArg args) ids ≡ false → RowMoves ids event id args ss (quietly 32 id args false) ss
-    row-moves-32 f = record { moved = rw f; states = sym (act-absent event (faultArg args) ids ss f) }
+    pub row-moves-32 : place ≡ none → RowMoves ids event id args ss (quietly 32 id args false) ss
+    row-moves-32 e = record { moved = rw e; states = rw e }
 
-    pub row-moves-12 : (place v : ℕ) → member (faultArg args) ids ≡ true → place ≡ placeIn (faultArg args) ids → (place < length ids) × (length ids ≤ length ss) → v ≡ nextState (getD ss place 0) event
-        → RowMoves ids event id args ss (quietly 12 id args false) (set ss place v)
-    row-moves-12 place v f q (h, l) w =
-        record {
-          moved = rw f;
-          states = rw (w, q) (act-at event (faultArg args) ids ss (omega (arith, q)) l);
-        }
+    pub row-moves-12 : (at v : ℕ) → place ≡ some at → v ≡ nextState (getD ss at 0) event → RowMoves ids event id args ss (quietly 12 id args false) (set ss at v)
+    row-moves-12 at v e w = record { moved = rw e; states = rw (e, w) }
 
 -- ---- the counters
 
-counts-accepted : (n : ℕ) (k : Option Own) (c : Counts) → rejection n ≡ false → movedCounts n (eqb n 12 && isReset k) c ≡ packetCounts n (isReset k) c
+counts-accepted : (n : ℕ) (k : Option Own) (c : Counts) → isRejection n ≡ false → movedCounts n (eqb n 12 && isReset k) c ≡ packetCounts n (isReset k) c
 unfolding movedCounts packetCounts
 counts-accepted n k c h = go (eqb n 12) refl
   where
-    go : (b : Bool) → eqb n 12 ≡ b → cond (rejection n) (rejectedCounts c) (cond (eqb n 12 && (eqb n 12 && isReset k)) noCounts (accepted n c)) ≡ cond (eqb n 12 && isReset k) noCounts (accepted n c)
+    go : (b : Bool) → eqb n 12 ≡ b → cond (isRejection n) (rejectedCounts c) (cond (eqb n 12 && (eqb n 12 && isReset k)) noCounts (acceptedCounts n c)) ≡ cond (eqb n 12 && isReset k) noCounts (acceptedCounts n c)
     go true e = rw (h, e) refl
     go false e = rw (h, e) refl
 
-counts-rejected : (n : ℕ) (c : Counts) → rejection n ≡ true → movedCounts n false c ≡ rejectedCounts c
+counts-rejected : (n : ℕ) (c : Counts) → isRejection n ≡ true → movedCounts n false c ≡ rejectedCounts c
 unfolding movedCounts
 counts-rejected n c h = rw h
 
-no-rejection : (routed protected ids : List ℕ) (armed : Bool) (id : ℕ) (k : Option Own) (args : List ℕ) → rejection (answerFor routed protected ids armed id k args) ≡ false
+no-rejection : (routed protected ids : List ℕ) (armed : Bool) (id : ℕ) (k : Option Own) (args : List ℕ) → isRejection (answerFor routed protected ids armed id k args) ≡ false
 unfolding answerFor ownAnswer routeAnswer
 no-rejection routed protected ids armed id none args = go (blocked protected armed id) (member id routed)
   where
-    go : (a m : Bool) → rejection (check (not a) 30 (check m 33 10)) ≡ false
+    go : (a m : Bool) → isRejection (check (not a) 30 (check m 33 10)) ≡ false
     go true m = refl
     go false true = refl
     go false false = refl
 no-rejection routed protected ids armed id (some k) args =
-    go (blocked protected armed id) (eqb (length args) (ruleOf k .wanted)) (not (ruleOf k .onRow) || member (faultArg args) ids) (done-is k)
+    go (blocked protected armed id) (eqb (length args) (ruleOf k .wanted)) (not (ruleOf k .onRow) || isPlace (placeOf (faultArg args) ids)) (done-is k)
   where
-    go : (a b d : Bool) → (ruleOf k .done ≡ 11) ⊎ (ruleOf k .done ≡ 12) → rejection (check (not a) 30 (check b 31 (check d 32 (ruleOf k .done)))) ≡ false
+    go : (a b d : Bool) → (ruleOf k .done ≡ 11) ⊎ (ruleOf k .done ≡ 12) → isRejection (check (not a) 30 (check b 31 (check d 32 (ruleOf k .done)))) ≡ false
     go true b d e = refl
     go false false d e = refl
     go false true false e = refl
     go false true true (inl e) = rw e
     go false true true (inr e) = rw e
-
-bad-rejects : {s : List ℕ} {n : ℕ} → BadForm s n → rejection n ≡ true
-bad-rejects (not-version-0 h) = refl
-bad-rejects (not-telecommand v h) = refl
-bad-rejects (not-secondary v t h) = refl
-bad-rejects (not-xor-0 v t f h) = refl
-
-rejects : {s : List ℕ} {n : ℕ} → Outcome s n → (n ≡ 0 → ⊥) → rejection n ≡ true
-rejects (below-6 h) z = refl
-rejects (not-whole a h) z = refl
-rejects (bad-form a b) z = bad-rejects b
-rejects (no-room a f h) z = refl
-rejects (too-many a f r h) z = refl
-rejects (taken a) z = absurd (z refl)
-
-not-sent : {n : ℕ} → rejection n ≡ true → n ≡ 10 → ⊥
-not-sent {n} h e = let z : rejection 10 ≡ true = rw e at h in let q : _≡_ {A = ℕ} 0 1 = cc in omega arith
 
 -- ---- a packet, with the columns lent
 
@@ -169,30 +149,30 @@ module _ (c : Config) (l : Lent (c .numbers) (c .routeids) (c .dests) (c .protec
   fault-ids = take (c .numbers .nrows) (c .faultids)
 
   abbrev run : Counts → Run
-  run counts = record { arm = arm; counts = counts; states = before }
+  run counts = runFrom arm counts before
 
-  pub moves-rejected : (n : ℕ) → (n ≡ refusalOf p) × (n ≡ 0 → ⊥) → PacketMoves c arm before p out (rejectedBy arm n) before out
+  pub moves-rejected : (n : ℕ) → (n ≡ refusalUnder (tablesOf c) p) × (n ≡ 0 → ⊥) → PacketMoves c arm before p out (rejectedBy arm n) before out
   unfolding rejectedStep packetOutput
   moves-rejected n (e, h) =
-      let y : rejection n ≡ true = rejects (rw (← e) at (outcome p)) h in
+      let y : isRejection n ≡ true = rejects-under (tablesOf c) p (rw (← e) at (outcome-under (tablesOf c) p)) h in
       record {
         step = λ counts. rw (counts-rejected n counts y) (packet-rejected (tablesOf c) (run counts) p n (e, h));
-        output = sent-not n (c .numbers .ground) (commandId p) (argumentsOf p) out (not-sent y);
+        output = sent-not n (c .numbers .ground) (commandId p) (argumentsOf p) out (rejection-not y 10 refl);
         long = refl;
       }
 
-  module _ {id : ℕ} {k : Option Own} {args : List ℕ} (z : refusalOf p ≡ 0) (ei : id ≡ commandId p) (ea : args ≡ argumentsOf p) (ek : k ≡ ownCommand (c .numbers .base) id) where
+  module _ {id : ℕ} {k : Option Own} {args : List ℕ} (z : refusalUnder (tablesOf c) p ≡ 0) (ei : id ≡ commandId p) (ea : args ≡ argumentsOf p) (ek : k ≡ ownCommand (c .numbers .base) id) where
     moves-accepted : {n : ℕ} {r : Moved} {after left : List ℕ}
         → n ≡ answerFor routed-ids protected-ids fault-ids (arm .armed) id k args
         → r ≡ movedBy n k id args (destOf id (tablesOf c .routes))
-        → after ≡ statesOn fault-ids n k args before
+        → after ≡ statesAfter fault-ids n k args before
         → left ≡ sent n (c .numbers .ground) id args out
         → PacketMoves c arm before p out r after left
     unfolding packetOutput
     moves-accepted {n} {r} {after} {left} en er es eo =
-        let y : rejection n ≡ false = rw en (no-rejection routed-ids protected-ids fault-ids (arm .armed) id k args) in
-        let t = l .route-ids in
-        let f = l .fault-ids in
+        let y : isRejection n ≡ false = rw en (no-rejection routed-ids protected-ids fault-ids (arm .armed) id k args) in
+        let t = l .route-ids .slots in
+        let f = l .fault-ids .slots in
         record {
           step = λ counts.
               rw er
@@ -226,8 +206,8 @@ module _ (c : Config) (l : Lent (c .numbers) (c .routeids) (c .dests) (c .protec
         moves-33 g =
             moves-quiet 33 (λ e. omega arith, λ e. omega arith) (route-none (l .route-ids) id at f g ∙ answer-route _ _ _ _ _ _ h b)
 
-        pub moves-10 : (written : ℕ) (left : List ℕ) → at < c .numbers .nroutes → (written ≡ 5 + length args) × (left ≡ over (commandBytes (c .numbers .ground) id args) out)
-            → PacketMoves c arm before p out (record { arm = armAfter 10 args; reset = false; answer = record { answer = 10; id = id; dest = getD (c .dests) at 0; written = written } }) before left
+        pub moves-10 : (written : ℕ) (left : List ℕ) → at < c .numbers .nroutes → Wrote (c .numbers .ground) id args out written left
+            → PacketMoves c arm before p out (movedFrom (armAfter 10 args) false (dispatchedAnswer id (getD (c .dests) at 0) written)) before left
         moves-10 written left g (w, o) =
             moves-accepted {n = 10} (route-found (l .route-ids) id at f g ∙ answer-route _ _ _ _ _ _ h b)
             (rw (w, route-dest (l .route-ids) id at f (c .dests) g))

@@ -31,7 +31,7 @@ module _ {c : Config} {run : Run} (k : Keeps c run) where
           latching-32 = z .latching-32;
           argcounts-32 = z .argcounts-32;
           args-512 = z .args-512;
-          args-within = λ i h. omega (arith, fault-column k z .within, few-counted (c .numbers .nrows) i (c .argcounts) (c .args) (k .unused .args-clear) h);
+          args-within = λ i h. omega (arith, fault-column k z .slots .within, few-counted (c .numbers .nrows) i (c .argcounts) (c .args) (k .unused .args-clear) h);
           routed = λ i h. responds k z i h;
         }
 

@@ -1,26 +1,25 @@
--- Document 01, "Own commands": an enable, disable or clear that was done acts on the row of its fault id, by the event of its
--- name, and on no other row.
+-- Document 01, "Own commands": an enable, disable or clear that was done acts on the row that its fault id means, by the event of
+-- its name, and on no other row.
 use mathlib.Core.Path.{_≡_, refl, sym, ap, _∙_}
 use mathlib.Core.Bool.{Bool, true, false, false≢true}
 use mathlib.Core.Option.{Option, none, some}
-use mathlib.Core.List.{List, map}
+use mathlib.Core.List.{List}
 use Prim.Native.Nat.{ℕ, _≤_}
 use native.Mathlib.Omega.{arith}
-use lib.ListN.{length}
+use lib.ListN.{length, getD, length-map}
 use Rattle.packetrules.specs.Layout.{commandId}
 use Rattle.packetrules.specs.Judge.{argumentsOf}
 use Rattle.state.specs.declared.types.Config.{Config}
 use Rattle.state.specs.declared.types.Run.{Run}
 use Rattle.state.specs.Tables.{FaultRow, faultId, tablesOf}
-use Rattle.state.specs.Rules.{member}
-use Rattle.faultstates.specs.FaultStates.{enable, disable, clear, fault, nextState, actOn, stateFor}
-use Rattle.faultstates.specs.ActLaws.{commands-its-row, acts-on-no-other}
+use Rattle.faultstates.specs.FaultStates.{enable, disable, clear, nextState, meant, stateFor, commanded}
+use Rattle.faultstates.specs.ActLaws.{place-row, acts-on-its-row, acts-on-no-other}
 use Rattle.answers.specs.declared.own.Own.{Own}
 use Rattle.answers.specs.declared.own.Own.the-variants.{Enable, Disable, Clear}
 use Rattle.answers.specs.Own.{ruleOf, ownCommand, faultArg}
 use Rattle.steprules.specs.declared.types.Stepped.{Stepped}
 use Rattle.steprules.specs.Step.{rejectedStep, statesBy, statesAfter, packetStepOf}
-use Rattle.steprules.specs.Demand1.{refused-range}
+use Rattle.steprules.specs.Packets.{not-under}
 use Rattle.steprules.specs.Outcome.{PacketSteps, packet-steps, stopped, miscounted, no-row, row-done, arm-taken, own-done, no-route, goes}
 use Rattle.steprules.specs.Outcome as outcomes
 
@@ -40,11 +39,6 @@ by-event enables act ss = refl
 by-event disables act ss = refl
 by-event clears act ss = refl
 
-no-fault : {k : Own} {e : ℕ} → RowCommand k e → e ≡ fault → ⊥
-no-fault enables q = omega arith
-no-fault disables q = omega arith
-no-fault clears q = omega arith
-
 abbrev asksRow : Option Own → Bool
 asksRow none = false
 asksRow (some k) = ruleOf k .onRow
@@ -53,33 +47,44 @@ module _ (c : Config) (run : Run) (p : List ℕ) (room : ℕ) {k : Own} {e : ℕ
   abbrev rows : List FaultRow
   rows = tablesOf c .rows
 
-  abbrev f : ℕ
-  f = faultArg (argumentsOf p)
+  -- the place that its fault id means
+  abbrev place : Option ℕ
+  place = meant (tablesOf c) (faultArg (argumentsOf p))
 
-  -- where it was done: its fault id is in the table, and the states are those after its event
-  acts : (r : Stepped) → PacketSteps c run p room r → r .answer .answer ≡ 12 → (member f (map faultId rows) ≡ true) × (r .run .states ≡ actOn e f rows (run .states))
+  abbrev after : List ℕ
+  after = packetStepOf c run p room .run .states
+
+  record Acts (r : Stepped) : Type 0 where
+    pub row : ℕ
+    pub there : place ≡ some row
+    pub states : r .run .states ≡ commanded e place (run .states)
+
+  -- where it was done: its fault id means a row, and the states are those after its event on that row
+  acts : (r : Stepped) → PacketSteps c run p room r → r .answer .answer ≡ 12 → Acts r
   unfolding rejectedStep statesAfter
   acts r (outcomes.breaks x) d = absurd (omega arith)
   acts r (outcomes.cramped x q) d = absurd (omega arith)
-  acts r (outcomes.rejects x q n o y) d = absurd (omega (arith, refused-range o y, d))
+  acts r (outcomes.rejects x q n o y) d = absurd (not-under (tablesOf c) p o y 12 refl d)
   acts r (outcomes.does x q a n (stopped b)) d = absurd (omega arith)
   acts r (outcomes.does x q a n (miscounted b j o h)) d = absurd (omega arith)
   acts r (outcomes.does x q a n (no-row b j o l h m)) d = absurd (omega arith)
-  acts r (outcomes.does x q a n (row-done b j o l h m)) d = (m, rw own (by-event w (λ e. actOn e f rows (run .states)) (run .states)))
+  acts r (outcomes.does x q a n (row-done b j o l h i m)) d = record { row = i; there = m; states = rw own (by-event w (λ e. commanded e place (run .states)) (run .states)) }
   acts r (outcomes.does x q a n (arm-taken b o l)) d = absurd (omega arith)
   acts r (outcomes.does x q a n (own-done b j o l h m)) d = absurd (false≢true (sym h ∙ ap asksRow (sym o ∙ own) ∙ on-row w))
   acts r (outcomes.does x q a n (no-route b o m)) d = absurd (omega arith)
   acts r (outcomes.does x q a n (goes b o m)) d = absurd (omega arith)
 
   module _ (done : packetStepOf c run p room .answer .answer ≡ 12) where
-    -- the row of its fault id is in the state that the table of events gives; each row has a state
-    pub command-on-its-row : length rows ≤ length (run .states) → stateFor f rows (packetStepOf c run p room .run .states) ≡ nextState (stateFor f rows (run .states)) e
-    command-on-its-row l =
-        let a = acts (packetStepOf c run p room) (packet-steps c run p room) done in
-        rw (a .1) (commands-its-row e f rows (run .states) (a .0) l (no-fault w))
+    acted : Acts (packetStepOf c run p room)
+    acted = acts (packetStepOf c run p room) (packet-steps c run p room) done
 
-    -- the row of any other id is as it was
-    pub command-on-no-other : (g : ℕ) → (g ≡ f → ⊥) → stateFor g rows (packetStepOf c run p room .run .states) ≡ stateFor g rows (run .states)
-    command-on-no-other g h =
-        let a = acts (packetStepOf c run p room) (packet-steps c run p room) done in
-        rw (a .1) (acts-on-no-other e f rows (run .states) g h)
+    -- the row that its fault id means is in the state that the table of events gives; each row has a state
+    pub command-on-its-row : length rows ≤ length (run .states) → stateFor place after ≡ nextState (stateFor place (run .states)) e
+    command-on-its-row l =
+        let a = acted in
+        let i = place-row (faultArg (argumentsOf p)) _ (a .row) (a .there) .0 in
+        rw (a .states, a .there) (acts-on-its-row (λ s. nextState s e) (run .states) (a .row) (omega (arith, i, length-map rows faultId)))
+
+    -- the row at any other place is as it was
+    pub command-on-no-other : (j : ℕ) → (place ≡ some j → ⊥) → getD after j 0 ≡ getD (run .states) j 0
+    command-on-no-other j h = rw (acted .states) (acts-on-no-other (λ s. nextState s e) (run .states) place j h)

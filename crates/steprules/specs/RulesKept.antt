@@ -1,76 +1,80 @@
 -- A step keeps the rules of the state: so a loop may judge its state once and go on with the inner steps.
 use mathlib.Core.Path.{_≡_, refl}
-use mathlib.Core.Bool.{Bool, true, false, cond, not, _&&_}
+use mathlib.Core.Bool.{Bool, true, false, cond, not}
 use mathlib.Core.Option.{Option, none, some}
-use mathlib.Core.List.{List, [], _∷_}
+use mathlib.Core.List.{List, [], _∷_, map}
 use Prim.Native.Nat.{ℕ, zero, suc, _+_, _-_, _≤_, _<_}
 use native.Mathlib.Omega.{arith}
 use lib.Dec.{eqb, lit≤}
-use lib.ListN.{getD, take, drop}
+use lib.ListN.{length, getD, set, take, drop, length-map}
 use lib.Seq.{getD-take, getD-drop}
 use borrow.Author.Tests.{eqb-true, eqb-false}
 use Rattle.packetrules.specs.Layout.{argCount, commandId}
-use Rattle.packetrules.specs.Judge.{refusalOf, argumentsOf}
-use Rattle.packetrules.specs.Outcome.{Accepts}
-use Rattle.packetrules.specs.Laws.{accepts, arguments-accepted}
+use Rattle.packetrules.specs.Judge.{argumentsOf}
+use Rattle.packetrules.specs.Laws.{arguments-accepted}
 use Rattle.state.specs.declared.types.Config.{Config}
 use Rattle.state.specs.declared.types.Run.{Run}
 use Rattle.state.specs.declared.types.Arm.{Arm}
-use Rattle.state.specs.Tables.{FaultRow, Tables, tablesOf}
+use Rattle.state.specs.Tables.{FaultRow, Tables, faultId, tablesOf}
 use Rattle.state.specs.Keeps.{Clear, StateOk, StatesOk, ArmOk, RunOk, Keeps}
-use Rattle.faultstates.specs.FaultStates.{disabled, enabled, latched, enable, disable, clear, fault, nextState, rowAfter, actOn, clearAll}
+use Rattle.steprules.specs.Packets.{refusalUnder, acceptedUnder, AcceptsUnder, accepts-under}
+use Rattle.faultstates.specs.FaultStates.{disabled, enabled, latched, enable, disable, clear, fault, nextState, rowAfter, placeOf, meant, noRow, rowFor, onward, clearAll}
+use Rattle.faultstates.specs.ActLaws.{place-row}
 use Rattle.answers.specs.declared.own.Own.{Own}
 use Rattle.answers.specs.declared.own.Own.the-variants as own
 use Rattle.answers.specs.Own.{faultArg}
 use Rattle.arming.specs.Arming.{unarmed, armedFor, fullTime, armSet, armAfter, ticked}
 use Rattle.answers.specs.Answers.{answerTo, faultAnswer}
-use Rattle.steprules.specs.Step.{statesBy, statesAfter, acceptedStep, rejectedStep, packetStep, tickStep, faulted, faultStep}
+use Rattle.steprules.specs.Step.{statesAfter, acceptedStep, rejectedStep, packetStep, tickStep, faulted, faultStep}
+use Rattle.steprules.specs.StateLaws.{doneOn}
 use Rattle.steprules.specs.StepLaws.{packet-rejected, packet-accepted}
 pub use Rattle.wire.specs.Bytes.{Bytes}
 
 -- ---- fault states
 
--- a row that doesn't latch never gets latched
-next-ok : (latching s e : ℕ) → e ≤ fault → StateOk latching s → StateOk latching (rowAfter latching s e)
-unfolding rowAfter
-next-ok latching s e b h = go (eqb e enable) refl (eqb e disable) refl (eqb e clear) refl (eqb e fault) refl (eqb s disabled) (eqb s latched) refl (eqb latching 0) refl
-  where
-    low : (x : ℕ) → x ≤ 1 → StateOk latching x
-    low x l = record { known = omega arith; may-latch = λ p q. omega arith }
+-- each event on a row keeps its rule: a row that doesn't latch never gets latched
+module _ (latching s : ℕ) (h : StateOk latching s) where
+  low : (x : ℕ) → x ≤ 1 → StateOk latching x
+  low x l = record { known = omega arith; may-latch = λ p q. omega arith }
 
-    go : (a : Bool) → eqb e enable ≡ a → (i : Bool) → eqb e disable ≡ i → (d : Bool) → eqb e clear ≡ d → (f : Bool) → eqb e fault ≡ f
-        → (z w : Bool) → eqb s latched ≡ w → (l : Bool) → eqb latching 0 ≡ l
-        → StateOk latching (cond (f && l) s (cond a (cond w latched enabled) (cond i disabled (cond d (cond z disabled enabled) (cond z disabled latched)))))
-    go a ea i ei d ed true ef z w ew true el = h
-    go true ea i ei d ed true ef z w ew false el = absurd (omega (arith, eqb-true e enable ea, eqb-true e fault ef))
-    go false ea true ei d ed true ef z w ew false el = low 0 (lit≤ tt)
-    go false ea false ei true ed true ef true w ew false el = low 0 (lit≤ tt)
-    go false ea false ei true ed true ef false w ew false el = low 1 (lit≤ tt)
-    go false ea false ei false ed true ef true w ew false el = low 0 (lit≤ tt)
-    go false ea false ei false ed true ef false w ew false el = record { known = lit≤ tt; may-latch = λ p q. eqb-false latching 0 el q }
-    go true ea i ei d ed false ef z true ew l el = record { known = lit≤ tt; may-latch = λ p q. h .may-latch (eqb-true s latched ew) q }
-    go true ea i ei d ed false ef z false ew l el = low 1 (lit≤ tt)
-    go false ea true ei d ed false ef z w ew l el = low 0 (lit≤ tt)
-    go false ea false ei true ed false ef true w ew l el = low 0 (lit≤ tt)
-    go false ea false ei true ed false ef false w ew l el = low 1 (lit≤ tt)
-    go false ea false ei false ed false ef z w ew l el =
-        absurd (omega (arith, eqb-false e enable ea, eqb-false e disable ei, eqb-false e clear ed, eqb-false e fault ef))
+  enable-ok : StateOk latching (nextState s enable)
+  enable-ok = go (eqb s latched) refl
+    where
+      go : (b : Bool) → eqb s latched ≡ b → StateOk latching (cond b latched enabled)
+      go true e = record { known = lit≤ tt; may-latch = λ p q. h .may-latch (eqb-true s latched e) q }
+      go false e = low 1 (lit≤ tt)
 
-act-ok : (e f : ℕ) → e ≤ fault → (rows : List FaultRow) (ss : List ℕ) → StatesOk rows ss → StatesOk rows (actOn e f rows ss)
-act-ok e f b [] ss h = h
-act-ok e f b (r ∷ rows) [] h = tt
-act-ok e f b (r ∷ rows) (s ∷ ss) h = go (act-ok e f b rows ss (h .1)) (eqb f (r .id)) refl
-  where
-    go : StatesOk rows (actOn e f rows ss) → (q : Bool) → eqb f (r .id) ≡ q → StatesOk (r ∷ rows) (actOn e f (r ∷ rows) (s ∷ ss))
-    go ih true q = simp q (next-ok (r .latching) s e b (h .0), h .1)
-    go ih false q = simp q (h .0, ih)
+  clear-ok : StateOk latching (nextState s clear)
+  clear-ok = go (eqb s disabled)
+    where
+      go : (b : Bool) → StateOk latching (cond b disabled enabled)
+      go true = low 0 (lit≤ tt)
+      go false = low 1 (lit≤ tt)
 
-clear-low : (s : ℕ) → nextState s clear ≤ 1
-clear-low s = go (eqb s disabled)
+  fault-ok : StateOk latching (rowAfter latching s fault)
+  unfolding rowAfter
+  fault-ok = go (eqb latching 0) refl (eqb s disabled)
+    where
+      go : (l : Bool) → eqb latching 0 ≡ l → (z : Bool) → StateOk latching (cond l s (cond z disabled latched))
+      go true e z = h
+      go false e true = low 0 (lit≤ tt)
+      go false e false = record { known = lit≤ tt; may-latch = λ p q. eqb-false latching 0 e q }
+
+set-ok : (rows : List FaultRow) (ss : List ℕ) (k v : ℕ) → k < length rows → (StateOk (getD rows k noRow .latching) (getD ss k 0) → StateOk (getD rows k noRow .latching) v)
+    → StatesOk rows ss → StatesOk rows (set ss k v)
+set-ok [] ss k v l f h = absurd (omega arith)
+set-ok (r ∷ rows) [] k v l f h = tt
+set-ok (r ∷ rows) (s ∷ ss) zero v l f h = (f (h .0), h .1)
+set-ok (r ∷ rows) (s ∷ ss) (suc k) v l f h = (h .0, set-ok rows ss k v (omega arith) f (h .1))
+
+-- and so does one on the row that a fault id means
+onward-ok : (rows : List FaultRow) (f : ℕ) (next : FaultRow → ℕ → ℕ) (ss : List ℕ) → ((r : FaultRow) (s : ℕ) → StateOk (r .latching) s → StateOk (r .latching) (next r s))
+    → StatesOk rows ss → let place = placeOf f (map faultId rows) in StatesOk rows (onward (next (rowFor place rows)) place ss)
+onward-ok rows f next ss ok h = go (placeOf f (map faultId rows)) refl
   where
-    go : (z : Bool) → cond z disabled enabled ≤ 1
-    go true = lit≤ tt
-    go false = lit≤ tt
+    go : (o : Option ℕ) → placeOf f (map faultId rows) ≡ o → StatesOk rows (onward (next (rowFor o rows)) o ss)
+    go none e = h
+    go (some k) e = set-ok rows ss k _ (omega (arith, place-row f (map faultId rows) k e .0, length-map rows faultId)) (ok (getD rows k noRow) (getD ss k 0)) h
 
 clear-zero : (s : ℕ) → s ≡ 0 → nextState s clear ≡ 0
 clear-zero s e = rw e
@@ -79,30 +83,28 @@ clear-clear : (ss : List ℕ) → Clear ss → Clear (clearAll ss)
 clear-clear [] h = tt
 clear-clear (s ∷ ss) h = (clear-zero s (h .0), clear-clear ss (h .1))
 
-clear-ok : (rows : List FaultRow) (ss : List ℕ) → StatesOk rows ss → StatesOk rows (clearAll ss)
-clear-ok [] ss h = clear-clear ss h
-clear-ok (r ∷ rows) [] h = tt
-clear-ok (r ∷ rows) (s ∷ ss) h =
-    let l = clear-low s in
-    (record { known = omega arith; may-latch = λ p q. omega arith }, clear-ok rows ss (h .1))
+all-ok : (rows : List FaultRow) (ss : List ℕ) → StatesOk rows ss → StatesOk rows (clearAll ss)
+all-ok [] ss h = clear-clear ss h
+all-ok (r ∷ rows) [] h = tt
+all-ok (r ∷ rows) (s ∷ ss) h = (clear-ok (r .latching) s (h .0), all-ok rows ss (h .1))
 
-own-ok : (rows : List FaultRow) (k : Own) (args ss : List ℕ) → StatesOk rows ss → StatesOk rows (statesBy (λ e. actOn e (faultArg args) rows ss) k ss)
-own-ok rows own.Arm args ss h = h
-own-ok rows own.ResetCounters args ss h = h
-own-ok rows own.NoOp args ss h = h
-own-ok rows own.NoOpWithArgument args ss h = h
-own-ok rows own.Enable args ss h = act-ok enable (faultArg args) (lit≤ tt) rows ss h
-own-ok rows own.Disable args ss h = act-ok disable (faultArg args) (lit≤ tt) rows ss h
-own-ok rows own.Clear args ss h = act-ok clear (faultArg args) (lit≤ tt) rows ss h
-own-ok rows own.ClearAll args ss h = clear-ok rows ss h
+own-ok : (rows : List FaultRow) (k : Own) (f : ℕ) (ss : List ℕ) → StatesOk rows ss → StatesOk rows (doneOn (placeOf f (map faultId rows)) k ss)
+own-ok rows own.Arm f ss h = h
+own-ok rows own.ResetCounters f ss h = h
+own-ok rows own.NoOp f ss h = h
+own-ok rows own.NoOpWithArgument f ss h = h
+own-ok rows own.Enable f ss h = onward-ok rows f (λ r s. nextState s enable) ss (λ r s. enable-ok (r .latching) s) h
+own-ok rows own.Disable f ss h = onward-ok rows f (λ r s. nextState s disable) ss (λ r s ok. low (r .latching) s ok 0 (lit≤ tt)) h
+own-ok rows own.Clear f ss h = onward-ok rows f (λ r s. nextState s clear) ss (λ r s. clear-ok (r .latching) s) h
+own-ok rows own.ClearAll f ss h = all-ok rows ss h
 
-states-ok : (rows : List FaultRow) (n : ℕ) (k : Option Own) (args ss : List ℕ) → StatesOk rows ss → StatesOk rows (statesAfter rows n k args ss)
+states-ok : (rows : List FaultRow) (n : ℕ) (k : Option Own) (args ss : List ℕ) → StatesOk rows ss → StatesOk rows (statesAfter (map faultId rows) n k args ss)
 unfolding statesAfter
 states-ok rows n none args ss h = h
 states-ok rows n (some k) args ss h = go (eqb n 12)
   where
-    go : (a : Bool) → StatesOk rows (cond a (statesBy (λ e. actOn e (faultArg args) rows ss) k ss) ss)
-    go true = own-ok rows k args ss h
+    go : (a : Bool) → StatesOk rows (cond a (doneOn (placeOf (faultArg args) (map faultId rows)) k ss) ss)
+    go true = own-ok rows k (faultArg args) ss h
     go false = h
 
 -- ---- the arm record
@@ -132,22 +134,22 @@ first-byte : (n : ℕ) (p : List ℕ) → Bytes p → getD (take n (drop 10 p)) 
 first-byte zero p h = lit≤ tt
 first-byte (suc n) p h = rw (getD-take (suc n) (drop 10 p) 0 0 (omega arith), getD-drop 10 p 0 0) (h (10 + 0))
 
-argument-byte : (p : List ℕ) → Accepts p → Bytes p → getD (argumentsOf p) 0 0 < 256
-argument-byte p a h = rw (arguments-accepted p a) (first-byte (argCount p) p h)
+argument-byte : (t : Tables) (p : List ℕ) → AcceptsUnder t p → Bytes p → getD (argumentsOf p) 0 0 < 256
+argument-byte t p a h = rw (arguments-accepted p a) (first-byte (argCount p) p h)
 
 -- ---- the run of each step
 
 module _ (t : Tables) (run : Run) (h : RunOk t run) where
   pub packet-run-ok : (p : List ℕ) → Bytes p → RunOk t (packetStep t run p .run)
   unfolding acceptedStep rejectedStep
-  packet-run-ok p b = go (eqb (refusalOf p) 0) refl
+  packet-run-ok p b = go (acceptedUnder t p) refl
     where
-      go : (z : Bool) → eqb (refusalOf p) 0 ≡ z → RunOk t (packetStep t run p .run)
-      go false e = rw (← packet-rejected t run p (refusalOf p) (refl, eqb-false _ _ e)) (record { arm-ok = h .arm-ok; states-ok = h .states-ok })
+      go : (z : Bool) → acceptedUnder t p ≡ z → RunOk t (packetStep t run p .run)
+      go false e = rw (← packet-rejected t run p (refusalUnder t p) (refl, eqb-false _ _ e)) (record { arm-ok = h .arm-ok; states-ok = h .states-ok })
       go true e =
           rw (← packet-accepted t run p (commandId p) (argumentsOf p) (eqb-true _ _ e) refl refl)
           (record {
-            arm-ok = arm-after-ok (answerTo t (run .arm .armed) (commandId p) (argumentsOf p)) (argumentsOf p) (argument-byte p (accepts p (eqb-true _ _ e)) b);
+            arm-ok = arm-after-ok (answerTo t (run .arm .armed) (commandId p) (argumentsOf p)) (argumentsOf p) (argument-byte t p (accepts-under t p (eqb-true _ _ e)) b);
             states-ok = states-ok (t .rows) _ _ (argumentsOf p) (run .states) (h .states-ok);
           })
 
@@ -157,13 +159,13 @@ module _ (t : Tables) (run : Run) (h : RunOk t run) where
 
   pub fault-run-ok : (f : ℕ) → RunOk t (faultStep t run f .run)
   unfolding faultStep
-  fault-run-ok f = go (faultAnswer (t .rows) (run .states) f)
+  fault-run-ok f = go (faultAnswer (run .states) (meant t f))
     where
-      go : (n : ℕ) → RunOk t (faulted t run f n .run)
+      go : (n : ℕ) → RunOk t (faulted t run (meant t f) n .run)
       go n = by (eqb n 10) refl
         where
-          by : (b : Bool) → eqb n 10 ≡ b → RunOk t (faulted t run f n .run)
-          by true e = record { arm-ok = h .arm-ok; states-ok = rw e (act-ok fault f (lit≤ tt) (t .rows) (run .states) (h .states-ok)) }
+          by : (b : Bool) → eqb n 10 ≡ b → RunOk t (faulted t run (meant t f) n .run)
+          by true e = record { arm-ok = h .arm-ok; states-ok = rw e (onward-ok (t .rows) f (λ r s. rowAfter (r .latching) s fault) (run .states) (λ r s. fault-ok (r .latching) s) (h .states-ok)) }
           by false e = record { arm-ok = h .arm-ok; states-ok = rw e (h .states-ok) }
 
 -- ---- the state that each step leaves

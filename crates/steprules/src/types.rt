@@ -1,9 +1,10 @@
-// What a step hands back.
+// What a step hands back, and the makers of it: nobody else writes such a struct out.
 use state::types::Arm;
 use state::types::Counts;
 use state::types::Run;
+use state::types::run_of;
 ghost use mathlib.Core.Path.{_≡_};
-ghost use Rattle.steprules.specs.Bare.{bareAnswer, leftAs};
+ghost use Rattle.steprules.specs.Makers.{bareAnswer, namedAnswer, dispatchedAnswer, movedFrom, leftFrom, leftAs, stepLeft};
 
 // The four numbers of an answer: the answer, the command id, the destination and the bytes written.
 #[repr(C)]
@@ -40,11 +41,61 @@ pub struct Left {
 pub fn bare(n: u8) -> Answer
     ensures { λ r. ⌜ r ≡ bareAnswer n ⌝ }
 {
+    named(n, 0)
+}
+
+// An answer with its id, no destination and nothing written.
+pub fn named(n: u8, id: u16) -> Answer
+    ensures { λ r. ⌜ r ≡ namedAnswer n id ⌝ }
+{
     Answer {
         answer: n,
-        id: 0,
+        id,
         dest: 0,
         written: 0,
+    }
+}
+
+// A command dispatched.
+pub fn dispatched(id: u16, dest: u8, written: u16) -> Answer
+    ensures { λ r. ⌜ r ≡ dispatchedAnswer id dest written ⌝ }
+{
+    Answer {
+        answer: 10,
+        id,
+        dest,
+        written,
+    }
+}
+
+// What an inner step of a packet hands back.
+pub fn moved_of(arm: Arm, reset: bool, answer: Answer) -> Moved
+    ensures { λ r. ⌜ r ≡ movedFrom arm reset answer ⌝ }
+{
+    Moved { arm, reset, answer }
+}
+
+// What a step leaves.
+pub fn left_of(arm: Arm, counts: Counts, answer: Answer) -> Left
+    ensures { λ r. ⌜ r ≡ leftFrom arm counts answer ⌝ }
+{
+    Left {
+        arm,
+        counts,
+        answer,
+    }
+}
+
+// That step, with the fault states that it left.
+pub fn stepped_of(l: Left, states: [u8; 32]) -> Stepped
+    ensures { λ r. ⌜ r ≡ stepLeft l states ⌝ }
+{
+    let arm = l.arm;
+    let counts = l.counts;
+    let answer = l.answer;
+    Stepped {
+        run: run_of(arm, counts, states),
+        answer,
     }
 }
 
@@ -52,9 +103,5 @@ pub fn bare(n: u8) -> Answer
 pub fn kept(arm: Arm, counts: Counts, n: u8) -> Left
     ensures { λ r. ⌜ r ≡ leftAs arm counts n ⌝ }
 {
-    Left {
-        arm: arm,
-        counts: counts,
-        answer: bare(n),
-    }
+    left_of(arm, counts, bare(n))
 }

@@ -33,7 +33,8 @@ pub fn lent_fault<'a>(
     out: &mut [u8],
 ) -> Left
     ensures { λ r. ⌜ FaultLeaves
-        (configFrom numbers (now (routeids .entry)) (now (dests .entry)) (now (protected .entry)) (now (faultids .entry)) (now (responses .entry)) (now (latching .entry)) (now (argcounts .entry)) (now (args .entry)))
+        (configFrom numbers (now (routeids .entry)) (now (dests .entry)) (now (protected .entry)) (now (faultids .entry))
+        (now (responses .entry)) (now (latching .entry)) (now (argcounts .entry)) (now (args .entry)))
         (runFrom arm counts (now (states .entry))) fault (now (out .entry)) r (now (states .exit)) (now (out .exit)) ⌝ }
 {
     if !statecheck::lent_keeps(
@@ -51,7 +52,7 @@ pub fn lent_fault<'a>(
     ) {
         return types::kept(arm, counts, 20);
     }
-    if out.len() < 260 {
+    if out.len() < dispatch::STEP_ROOM {
         return types::kept(arm, counts, 21);
     }
     let answer = inner_fault(
@@ -67,11 +68,8 @@ pub fn lent_fault<'a>(
         fault,
         out,
     );
-    Left {
-        arm,
-        counts: counters::after_fault(counts, answer.answer),
-        answer,
-    }
+    let counted = counters::after_fault(counts, answer.answer);
+    types::left_of(arm, counted, answer)
 }
 
 // The same of a configuration and a run by value.
@@ -98,15 +96,5 @@ pub fn step_fault(config: Config, run: Run, fault: u16, out: &mut [u8]) -> Stepp
         fault,
         out,
     );
-    let left = l.arm;
-    let counted = l.counts;
-    let answer = l.answer;
-    Stepped {
-        run: Run {
-            arm: left,
-            counts: counted,
-            states,
-        },
-        answer,
-    }
+    types::stepped_of(l, states)
 }

@@ -33,7 +33,8 @@ pub fn lent_packet<'a>(
     out: &mut [u8],
 ) -> Left
     ensures { λ r. ⌜ PacketLeaves
-        (configFrom numbers (now (routeids .entry)) (now (dests .entry)) (now (protected .entry)) (now (faultids .entry)) (now (responses .entry)) (now (latching .entry)) (now (argcounts .entry)) (now (args .entry)))
+        (configFrom numbers (now (routeids .entry)) (now (dests .entry)) (now (protected .entry)) (now (faultids .entry))
+        (now (responses .entry)) (now (latching .entry)) (now (argcounts .entry)) (now (args .entry)))
         (runFrom arm counts (now (states .entry))) (now (packet .entry)) (now (out .entry)) r (now (states .exit)) (now (out .exit)) ⌝ }
 {
     if !statecheck::lent_keeps(
@@ -51,7 +52,7 @@ pub fn lent_packet<'a>(
     ) {
         return types::kept(arm, counts, 20);
     }
-    if out.len() < 260 {
+    if out.len() < dispatch::STEP_ROOM {
         return types::kept(arm, counts, 21);
     }
     let m = inner_packet(
@@ -67,11 +68,8 @@ pub fn lent_packet<'a>(
     );
     let left = m.arm;
     let answer = m.answer;
-    Left {
-        arm: left,
-        counts: counters::after_packet(counts, answer.answer, m.reset),
-        answer,
-    }
+    let counted = counters::after_packet(counts, answer.answer, m.reset);
+    types::left_of(left, counted, answer)
 }
 
 // The same of a configuration and a run by value.
@@ -98,15 +96,5 @@ pub fn step_packet(config: Config, run: Run, packet: &[u8], out: &mut [u8]) -> S
         packet,
         out,
     );
-    let left = l.arm;
-    let counted = l.counts;
-    let answer = l.answer;
-    Stepped {
-        run: Run {
-            arm: left,
-            counts: counted,
-            states,
-        },
-        answer,
-    }
+    types::stepped_of(l, states)
 }

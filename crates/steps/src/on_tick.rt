@@ -10,7 +10,7 @@ use steprules::types::Stepped;
 ghost use mathlib.Core.Path.{_≡_};
 ghost use Rattle.state.specs.Tables.{configFrom, runFrom};
 ghost use Rattle.steprules.specs.Step.{tickStepOf};
-ghost use Rattle.steprules.specs.Lent.{stepLeft};
+ghost use Rattle.steprules.specs.Makers.{stepLeft};
 
 // The step of any state: 20, then the tick, which moves the arm record alone. Columns and fault states are lent.
 pub fn lent_tick<'a>(
@@ -28,7 +28,8 @@ pub fn lent_tick<'a>(
     states: &'a [u8; 32],
 ) -> Left
     ensures { λ r. ⌜ stepLeft r (now (states .entry))
-        ≡ tickStepOf (configFrom numbers (now (routeids .entry)) (now (dests .entry)) (now (protected .entry)) (now (faultids .entry)) (now (responses .entry)) (now (latching .entry)) (now (argcounts .entry)) (now (args .entry)))
+        ≡ tickStepOf (configFrom numbers (now (routeids .entry)) (now (dests .entry)) (now (protected .entry)) (now (faultids .entry))
+        (now (responses .entry)) (now (latching .entry)) (now (argcounts .entry)) (now (args .entry)))
         (runFrom arm counts (now (states .entry))) ⌝ }
 {
     if !statecheck::lent_keeps(
@@ -48,11 +49,7 @@ pub fn lent_tick<'a>(
     }
     let ticked = arming::tick_of(arm);
     let left = ticked.arm;
-    Left {
-        arm: left,
-        counts,
-        answer: types::bare(ticked.answer),
-    }
+    types::left_of(left, counts, types::bare(ticked.answer))
 }
 
 // The same of a configuration and a run by value.
@@ -76,15 +73,5 @@ pub fn step_tick(config: Config, run: Run) -> Stepped
         counts,
         &states,
     );
-    let left = l.arm;
-    let counted = l.counts;
-    let answer = l.answer;
-    Stepped {
-        run: Run {
-            arm: left,
-            counts: counted,
-            states,
-        },
-        answer,
-    }
+    types::stepped_of(l, states)
 }

@@ -8,7 +8,7 @@ use native.Mathlib.Omega.{arith}
 use lib.Dec.{leb}
 use lib.ListN.{length, getD, take, drop}
 use Rattle.state.specs.Tables.{FaultRow, routeId, faultId, listed, routeAt, rowAt}
-use Rattle.state.specs.ArrayLaws.{map-listed, column-is}
+use Rattle.state.specs.ArrayLaws.{column-is, column-of}
 use Rattle.state.specs.Rules.{member, routeOk, rowOk}
 use Rattle.state.specs.Test.{risingAll, clear, routePasses, protectedPasses, rowPasses, routesKept, protectedKept, rowsKept, stateOk, statesOk}
 use Rattle.arraycheck.specs.Each.{each, rises, within, destOk, foreign}
@@ -41,7 +41,7 @@ pub routes-apart : (base : ℕ) (ids dests : List ℕ) (n : ℕ) → (n ≤ leng
 unfolding routesKept routeOk
 routes-apart base ids dests n (l, m) =
     apart routeId (routePasses base) 0 (listed (routeAt ids dests) 0 n)
-    ∙ rw (map-listed routeId (routeAt ids dests) 0 n, column-is ids n l, columns (routePasses base) (routeAt ids dests) destOk (foreign base) dests ids (λ i. sym (and-assoc (leb 1 (getD dests i 0)) (leb (getD dests i 0) 31) _)) n (m, l))
+    ∙ rw (column-of routeId (routeAt ids dests) ids n (λ i. refl) l, columns (routePasses base) (routeAt ids dests) destOk (foreign base) dests ids (λ i. sym (and-assoc (leb 1 (getD dests i 0)) (leb (getD dests i 0) 31) _)) n (m, l))
 
 pub protected-apart : (base : ℕ) (ids ps : List ℕ) → Gathered (protectedKept base ids ps) (each (protectedPasses base ids) ps) (rises 0 ps)
 unfolding protectedKept
@@ -61,7 +61,7 @@ module _ (ids faultids responses latching : List ℕ) (m : ℕ) where
       let f = rowAt faultids responses latching [] [] in
       record {
         rest = apart faultId (rowPasses ids) 0 (listed f 0 m)
-            ∙ rw (map-listed faultId f 0 m, column-is faultids m l, columns (rowPasses ids) f (within 1) (among ids) latching responses (λ i. and-comm (among ids (getD responses i 0)) (within 1 (getD latching i 0))) m (o, n));
+            ∙ rw (column-of faultId f faultids m (λ i. refl) l, columns (rowPasses ids) f (within 1) (among ids) latching responses (λ i. and-comm (among ids (getD responses i 0)) (within 1 (getD latching i 0))) m (o, n));
       }
 
   pub rows-latch : (m ≤ length faultids) × (m ≤ length responses) × (m ≤ length latching) → rises 0 (take m faultids) ≡ true

@@ -13,7 +13,7 @@ returns-2 : tie.Need-returns-2
 returns-2 c = rw (c .before .before .bump .ensures) (counts-12 _ _ _ (c .before .if1 .left) (not-true _ (c .if2 .taken)))
 
 returns-3 : tie.Need-returns-3
-returns-3 c = counts-reset _ _ _ (c .before .if1 .left) (not-false _ (c .if2 .left))
+returns-3 c = c .no-counts .ensures ∙ counts-reset _ _ _ (c .before .before .if1 .left) (not-false _ (c .before .if2 .left))
 
 pub after-own-spec : {M : Type 1} → statement M
-after-own-spec = tie.close (tie.spec (λ c κs. search needs) returns returns-2 returns-3)
+after-own-spec = tie.close (tie.spec (λ c κs. search needs) returns returns-2 (λ c κs. tt) returns-3)

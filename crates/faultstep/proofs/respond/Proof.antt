@@ -8,6 +8,9 @@ use borrow.Author.Needs.{needs}
 use Rattle.faultstep.proofs.respond.Statement.{statement}
 use Rattle.faultstep.proofs.respond.Tie as tie
 
+abbrev start : tie.After-write → tie.Start
+start c = c .before .before .before .before .before
+
 pub respond-spec : {M : Type 1} → statement M
 respond-spec =
     tie.close
@@ -19,9 +22,10 @@ respond-spec =
     (λ c. search needs)
     (λ c κs. search needs)
     (λ c. search needs)
-    (λ c. let g = c .before .before .before .before .before .before .before .args in
+    (λ c. let wrote = c .before .before in
+    let g = start wrote .args in
     let e : g .k * 16 + g .count - g .k * 16 ≡ g .count = omega arith in
-    let w = c .before .before .write .ensures in (
+    let w = wrote .write .ensures in (
       rw e at (w .0),
       w .1 ∙ ap (λ (n : ℕ). over (commandBytes (g .source) (g .id) (take n (drop (g .k * 16) (g .args .now)))) (g .out .now)) e,
     )))

@@ -1,14 +1,11 @@
 -- `inner_packet`: each way of a packet, by its law.
 use mathlib.Core.Path.{_≡_, refl, sym, _∙_}
-use mathlib.Core.Bool.{Bool}
 use mathlib.Core.Option.{Option, none, some}
-use lib.ListN.{take}
 use native.Mathlib.Omega.{arith}
 use borrow.Author.Needs.{needs}
 use Rattle.packetrules.specs.Judge.{refusalOf}
 use Rattle.packetrules.specs.Laws.{accepts}
 use Rattle.packetrules.specs.Parts.{arguments-few}
-use Rattle.answers.specs.Answers.{blocked}
 use Rattle.answers.specs.declared.own.Own.{Own}
 use Rattle.answers.specs.Own.{ruleOf, ownCommand}
 use Rattle.answers.specs.OwnLaws.{command-is, nothing-is}
@@ -16,20 +13,57 @@ use Rattle.steprules.specs.MovedLaws.{moves-rejected, moves-30, moves-own, move
 use Rattle.packetstep.proofs.inner_packet.Statement.{statement}
 use Rattle.packetstep.proofs.inner_packet.Tie as tie
 
+-- ---- the places of the code, each by the one before it
+
+abbrev part : tie.After-is-blocked → tie.After-accepted-part
+part c = c .before
+
+abbrev named : tie.After-is-blocked → tie.After-command-id
+named c = part c .before
+
+abbrev judged : tie.After-is-blocked → tie.Else1
+judged c = named c .before
+
+abbrev start : tie.Else1 → tie.Start
+start c = c .before .before .before .before
+
+abbrev asked : tie.After-selected → tie.After-is-blocked
+asked c = c .before .before
+
+abbrev unselected : tie.After-place → tie.After-enum-told
+unselected c = c .before .before
+
+abbrev selected : tie.After-enum-told → tie.After-selected
+selected c = c .before .before
+
+abbrev looked : tie.Else3 → tie.After-place
+looked c = c .before .before
+
+abbrev wrote : tie.After-dispatched-arg → tie.After-write
+wrote c = c .before .before .before
+
+abbrev routed : tie.After-write → tie.Else3
+routed c = c .before .before
+
+-- ---- what is known there
+
 -- accepted by the judge
-accepted : (c : tie.Else1) → refusalOf (c .before .before .before .before .args .packet .now) ≡ 0
+accepted : (c : tie.Else1) → refusalOf (start c .args .packet .now) ≡ 0
 accepted c = sym (c .before .refusal .ensures) ∙ c .if1 .left
 
--- asked whether it is protected
-module _ (c : tie.After-is-blocked) where
-  abbrev judged : tie.Else1
-  judged = c .before .before .before
+-- what the id selects
+abbrev chosen : tie.After-selected → Option Own
+chosen t = ownCommand (start (judged (asked t)) .args .numbers .base) (named (asked t) .command-id .result)
 
-  abbrev s : tie.Start
-  s = judged .before .before .before .before
+-- an own command, with the argument bytes that it takes
+own-command : (c : tie.After-selection) → let x = c .selection .given .0 in (chosen (c .before .before) ≡ some (x .0)) × (x .1 .0 ≡ ruleOf (x .0) .wanted)
+own-command c = let t = c .before .before in command-is (chosen t) _ _ (t .selected .ensures) (c .selection .given .1)
 
-  abbrev shut : Bool → Type 0
-  shut b = blocked (take (s .args .numbers .nprotected) (s .args .protected .now)) (s .args .arm .armed) (c .before .before .command-id .result) ≡ b
+-- or none
+no-command : (c : tie.After-enum-told) → chosen (selected c) ≡ none
+no-command c = let t = selected c in nothing-is (chosen t) (t .selected .ensures) (c .enum-told .given .1)
+
+-- ---- each way out
 
 returns : tie.Need-returns
 returns c responses latching argcounts args =
@@ -39,49 +73,39 @@ returns c responses latching argcounts args =
 returns-2 : tie.Need-returns-2
 returns-2 c responses latching argcounts args =
     let b = c .before .before in
-    rw (c .quiet .ensures) (moves-30 _ (s b .pre .0) _ _ _ _ (accepted (judged b)) (b .before .before .command-id .ensures) (b .before .accepted-part .ensures .0) refl
+    rw (c .quiet .ensures)
+    (moves-30 _ (start (judged b) .pre .0) _ _ _ _ (accepted (judged b)) (named b .command-id .ensures) (part b .accepted-part .ensures .0) refl
     (sym (b .is-blocked .ensures) ∙ c .before .if2 .taken))
-
--- what the id selects
-abbrev chosen : tie.After-selected → Option Own
-chosen t = ownCommand (s (t .before .before) .args .numbers .base) (t .before .before .before .before .command-id .result)
-
--- an own command, with the argument bytes that it takes
-own-command : (c : tie.After-selection) → let x = c .selection .given .0 in (chosen (c .before .before) ≡ some (x .0)) × (x .1 .0 ≡ ruleOf (x .0) .wanted)
-own-command c = let t = c .before .before in command-is (chosen t) _ _ (t .selected .ensures) (c .selection .given .1)
 
 returns-3 : tie.Need-returns-3
 returns-3 c responses latching argcounts args =
     let n = c .before .before .before in
-    let o = n .before .before .before in
-    let b = o .before in
-    moves-own _ (s b .pre .0) _ _ _ _ (accepted (judged b)) (b .before .before .command-id .ensures) (b .before .accepted-part .ensures .0) refl
-    (sym (b .is-blocked .ensures) ∙ o .if2 .left) _ (own-command n .0) (c .own-step .ensures)
-
--- or none
-no-command : (c : tie.After-enum-told) → chosen (c .before .before) ≡ none
-no-command c = let t = c .before .before in nothing-is (chosen t) (t .selected .ensures) (c .enum-told .given .1)
+    let t = n .before .before in
+    let b = asked t in
+    moves-own _ (start (judged b) .pre .0) _ _ _ _ (accepted (judged b)) (named b .command-id .ensures) (part b .accepted-part .ensures .0) refl
+    (sym (b .is-blocked .ensures) ∙ t .before .if2 .left) _ (own-command n .0) (c .own-step .ensures)
 
 returns-4 : tie.Need-returns-4
 returns-4 c responses latching argcounts args =
     let r = c .before .before .before in
-    let n = r .before .before in
-    let o = n .before .before .before in
-    let b = o .before in
-    rw (c .quiet2 .ensures) (moves-33 _ (s b .pre .0) _ _ _ _ (accepted (judged b)) (b .before .before .command-id .ensures) (b .before .accepted-part .ensures .0) refl
-    (sym (b .is-blocked .ensures) ∙ o .if2 .left) (no-command n) (r .place .ensures 8 refl .0) (c .before .if3 .taken))
+    let t = selected (unselected r) in
+    let b = asked t in
+    rw (c .quiet2 .ensures)
+    (moves-33 _ (start (judged b) .pre .0) _ _ _ _ (accepted (judged b)) (named b .command-id .ensures) (part b .accepted-part .ensures .0) refl
+    (sym (b .is-blocked .ensures) ∙ t .before .if2 .left) (no-command (unselected r)) (r .place .ensures 8 refl .0) (c .before .if3 .taken))
 
 returns-5 : tie.Need-returns-5
 returns-5 c responses latching argcounts args =
     let a = c .before in
-    let w = a .before .before .before in
-    let e = w .before .before in
-    let r = e .before .before in
-    let n = r .before .before in
-    let o = n .before .before .before in
-    let b = o .before in
-    rw (a .after-packet .ensures) (moves-10 _ (s b .pre .0) _ _ _ _ (accepted (judged b)) (b .before .before .command-id .ensures) (b .before .accepted-part .ensures .0) refl
-    (sym (b .is-blocked .ensures) ∙ o .if2 .left) (no-command n) (r .place .ensures 8 refl .0) _ _ (e .if3 .left) (w .write .ensures))
+    let d = a .before in
+    let w = wrote (d .before) in
+    let e = routed w in
+    let r = looked e in
+    let t = selected (unselected r) in
+    let b = asked t in
+    rw (c .moved-of .ensures, a .after-packet .ensures, d .dispatched .ensures)
+    (moves-10 _ (start (judged b) .pre .0) _ _ _ _ (accepted (judged b)) (named b .command-id .ensures) (part b .accepted-part .ensures .0) refl
+    (sym (b .is-blocked .ensures) ∙ t .before .if2 .left) (no-command (unselected r)) (r .place .ensures 8 refl .0) _ _ (e .if3 .left) (w .write .ensures))
 
 pub inner-packet-spec : {M : Type 1} → statement M
 inner-packet-spec =
@@ -103,10 +127,12 @@ inner-packet-spec =
     (λ c κs. search needs)
     (λ c κs. search needs)
     returns-4
-    (λ c κs. (search needs, rw (c .before .before .before .before .before .before .before .before .before .before .accepted-part .ensures .0) (arguments-few _)))
+    (λ c κs. (search needs, rw (part (asked (selected (unselected (looked (c .before))))) .accepted-part .ensures .0) (arguments-few _)))
+    (λ c. let e = routed (c .before .before) in
+    let b = asked (selected (unselected (looked e))) in
+    omega (arith, e .if3 .left, start (judged b) .pre .0 .route-ids .slots .within))
+    (λ c κs. tt)
     (λ c κs. search needs)
-    (λ c. let e = c .before .before .before .before .before in
-    let n = e .before .before .before .before in
-    omega (arith, e .if3 .left, s (n .before .before .before .before) .pre .0 .route-ids .within))
+    (λ c κs. tt)
     (λ c. search needs)
     returns-5)

@@ -1,7 +1,5 @@
 -- `own_step`: each own command, by its law.
 use mathlib.Core.Path.{_≡_, refl, sym, _∙_}
-use mathlib.Core.Bool.{true, false}
-use native.Mathlib.Omega.{arith}
 use borrow.Author.Needs.{needs}
 use lib.ListN.{length}
 use Rattle.faultstates.specs.FaultStates.{enable, disable, clear}
@@ -22,26 +20,40 @@ returns c =
 
 -- what acts on no row
 returns-2 : tie.Need-returns-2
-returns-2 c = let told = c .before in rw (c .quiet2 .ensures) (own-moves-off _ _ _ _ (counted (told .before .before)) Arm (told .enum-told .given .1) refl)
+returns-2 c =
+    let told = c .before in
+    rw (c .quiet2 .ensures) (own-moves-off _ _ _ _ (counted (told .before .before)) Arm (told .enum-told .given .1) refl)
 
 returns-3 : tie.Need-returns-3
-returns-3 c = let told = c .before in rw (c .quiet3 .ensures) (own-moves-off _ _ _ _ (counted (told .before .before)) ResetCounters (told .enum-told2 .given .1) refl)
+returns-3 c =
+    let told = c .before in
+    rw (c .quiet3 .ensures) (own-moves-off _ _ _ _ (counted (told .before .before)) ResetCounters (told .enum-told2 .given .1) refl)
 
 returns-4 : tie.Need-returns-4
-returns-4 c = let told = c .before in rw (c .quiet4 .ensures) (own-moves-off _ _ _ _ (counted (told .before .before)) NoOp (told .enum-told3 .given .1) refl)
+returns-4 c =
+    let told = c .before in
+    rw (c .quiet4 .ensures) (own-moves-off _ _ _ _ (counted (told .before .before)) NoOp (told .enum-told3 .given .1) refl)
 
 returns-5 : tie.Need-returns-5
-returns-5 c = let told = c .before in rw (c .quiet5 .ensures) (own-moves-off _ _ _ _ (counted (told .before .before)) NoOpWithArgument (told .enum-told4 .given .1) refl)
+returns-5 c =
+    let told = c .before in
+    rw (c .quiet5 .ensures) (own-moves-off _ _ _ _ (counted (told .before .before)) NoOpWithArgument (told .enum-told4 .given .1) refl)
 
 -- what acts on a row
 returns-6 : tie.Need-returns-6
-returns-6 c = let told = c .before .before in own-moves-on _ _ _ _ (counted (told .before .before)) Enable (told .enum-told5 .given .1) enable refl refl refl (c .row-step .ensures)
+returns-6 c =
+    let told = c .before .before in
+    own-moves-on _ _ _ _ (counted (told .before .before)) Enable (told .enum-told5 .given .1) enable refl refl refl (c .row-step .ensures)
 
 returns-7 : tie.Need-returns-7
-returns-7 c = let told = c .before .before in own-moves-on _ _ _ _ (counted (told .before .before)) Disable (told .enum-told6 .given .1) disable refl refl refl (c .row-step2 .ensures)
+returns-7 c =
+    let told = c .before .before in
+    own-moves-on _ _ _ _ (counted (told .before .before)) Disable (told .enum-told6 .given .1) disable refl refl refl (c .row-step2 .ensures)
 
 returns-8 : tie.Need-returns-8
-returns-8 c = let told = c .before .before in own-moves-on _ _ _ _ (counted (told .before .before)) Clear (told .enum-told7 .given .1) clear refl refl refl (c .row-step3 .ensures)
+returns-8 c =
+    let told = c .before .before in
+    own-moves-on _ _ _ _ (counted (told .before .before)) Clear (told .enum-told7 .given .1) clear refl refl refl (c .row-step3 .ensures)
 
 returns-9 : tie.Need-returns-9
 returns-9 c =

@@ -4,4 +4,6 @@ use Rattle.packetstep.proofs.quiet.Statement.{statement}
 use Rattle.packetstep.proofs.quiet.Tie as tie
 
 pub quiet-spec : {M : Type 1} → statement M
-quiet-spec = tie.close (tie.spec (λ c κs. search needs) (λ c. rw (c .after-packet .ensures)))
+quiet-spec =
+    tie.close
+    (tie.spec (λ c κs. search needs) (λ c κs. tt) (λ c κs. tt) (λ c. rw (c .moved-of .ensures, c .before .named .ensures, c .before .before .after-packet .ensures)))

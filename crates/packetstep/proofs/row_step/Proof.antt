@@ -2,8 +2,7 @@
 use mathlib.Core.Path.{refl}
 use native.Mathlib.Omega.{arith}
 use borrow.Author.Needs.{needs}
-use lib.Seq.{length-take-le}
-use Rattle.state.specs.LookupLaws.{is-member, no-member}
+use Rattle.faultstates.specs.ActLaws.{place-below, place-past}
 use Rattle.steprules.specs.MovedLaws.{row-moves-32, row-moves-12}
 use Rattle.packetstep.proofs.row_step.Statement.{statement}
 use Rattle.packetstep.proofs.row_step.Tie as tie
@@ -13,17 +12,15 @@ returns c =
     let at = c .before .before in
     let s = at .before .before .before .before in
     rw (c .quiet .ensures) (row-moves-32 _ _ _ _ _
-    (rw (at .before .fault-arg .ensures) at (no-member (s .pre .0) _ _ (at .place .ensures 6 refl .0) (c .before .if1 .taken))))
+    (rw (at .before .fault-arg .ensures) at (place-past (s .pre .0 .slots) _ _ (at .place .ensures 6 refl .0) (c .before .if1 .taken))))
 
 returns-2 : tie.Need-returns-2
 returns-2 c =
-    let at = c .before .before .before .before in
-    let f = at .before .fault-arg .ensures in
+    let on = c .before .before .before in
+    let at = on .before in
     let s = at .before .before .before .before in
     rw (c .quiet2 .ensures) (row-moves-12 _ _ _ _ _ _ _
-    (rw f at (is-member (s .pre .0) _ _ (at .place .ensures 6 refl .0) (c .before .before .before .if1 .left)))
-    (rw f at (at .place .ensures 6 refl .0))
-    (omega (arith, length-take-le (s .args .nrows) (s .args .faultids .now) (omega (arith, s .pre .0 .long))))
+    (rw (at .before .fault-arg .ensures) at (place-below (s .pre .0 .slots) _ _ (at .place .ensures 6 refl .0) (on .if1 .left)))
     (c .before .next .ensures))
 
 pub row-step-spec : {M : Type 1} → statement M

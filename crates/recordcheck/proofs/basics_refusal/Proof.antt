@@ -1,22 +1,42 @@
 -- `basics_refusal`: one law for each way out.
+use mathlib.Core.Path.{_≡_, refl, _∙_}
+use mathlib.Core.Bool.{true}
+use mathlib.Core.List.{List, []}
+use Prim.Native.Nat.{ℕ}
 use native.Mathlib.Omega.{arith}
-use Rattle.records.specs.PartLaws.{basics-missized, basics-second, basics-judged}
+use lib.Dec.{eqb}
+use borrow.Author.Tests.{eq-eqb, ne-eqb, eqb-true, eqb-false}
+use Rattle.state.specs.Tables.{Tables}
+use Rattle.state.specs.KeepsLaws.{split}
+use Rattle.records.specs.Kinds.{basics}
+use Rattle.records.specs.Checks.{refusalBy, refusalAfter}
+use Rattle.records.specs.RecordOutcome.{BadOrder, begins, second, falls}
+use Rattle.records.specs.RecordPartLaws.{by-its-entry, missized, one-misplaced, one-judged}
 use Rattle.recordcheck.proofs.basics_refusal.Statement.{statement}
 use Rattle.recordcheck.proofs.basics_refusal.Tie as tie
+
+first : (last : ℕ) (t : Tables) (b : List ℕ) {r : ℕ} → r ≡ refusalBy basics last 1 [] t b → r ≡ refusalAfter last [] t 1 b
+first last t b e = by-its-entry 1 last [] t b (omega arith) e
+
+-- a record behind others is a second of kind 1, or its kind falls
+not-first : {last : ℕ} → (last ≡ 0 → ⊥) → BadOrder true last 1
+not-first {last} h = split (BadOrder true last 1) (eqb last 1) (λ e. second h refl (eqb-true _ _ e)) (λ e. let n = eqb-false last 1 e in falls (omega arith))
 
 returns-3 : tie.Need-returns-3
 returns-3 c t =
     let e = c .before .before .before .before .before in
-    basics-judged _ t _ (e .before .if1 .left) (e .if2 .left)
-    (c .before .before .before .before .word-at .ensures, c .before .before .before .word-at2 .ensures, c .before .before .word-at3 .ensures)
-    (c .before .basics-ok .ensures) (c .rule-refusal .ensures)
+    first _ t _
+    (one-judged basics _ 1 t _ refl (eq-eqb _ _ (e .before .if1 .left)) refl (begins (e .if2 .left) refl)
+    (c .before .basics-ok .ensures
+    ∙ rw (c .before .before .before .before .word-at .ensures, c .before .before .before .word-at2 .ensures, c .before .before .word-at3 .ensures))
+    (c .rule-refusal .ensures))
 
 pub basics-refusal-spec : {M : Type 1} → statement M
 basics-refusal-spec =
     tie.close
     (tie.spec
-    (λ c t. basics-missized _ t _ (c .if1 .taken))
-    (λ c t. basics-second _ t _ (c .before .if1 .left) (c .if2 .taken))
+    (λ c t. first _ t _ (missized basics _ 1 [] t _ (ne-eqb _ _ (c .if1 .taken))))
+    (λ c t. first _ t _ (one-misplaced basics _ 1 t _ refl (eq-eqb _ _ (c .before .if1 .left)) (not-first (c .if2 .taken))))
     (λ c κs. omega arith)
     (λ c κs. omega arith)
     (λ c κs. omega arith)

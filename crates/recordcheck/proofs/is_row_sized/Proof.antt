@@ -1,6 +1,6 @@
 -- `is_row_sized`: one law for each way out.
 use native.Mathlib.Omega.{arith}
-use Rattle.records.specs.PartLaws.{row-short, row-long, row-fits}
+use Rattle.records.specs.RecordPartLaws.{row-short, row-long, row-fits}
 use Rattle.recordcheck.proofs.is_row_sized.Statement.{statement}
 use Rattle.recordcheck.proofs.is_row_sized.Tie as tie
 

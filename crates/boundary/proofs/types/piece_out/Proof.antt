@@ -1,8 +1,9 @@
 -- `piece_out`: the bool as a number.
-use mathlib.Core.Path.{_≡_, ap}
+use mathlib.Core.Path.{_≡_, ap, _∙_}
 use Prim.Native.Nat.{ℕ}
 use borrow.Author.Needs.{needs}
 use Rattle.boundary.specs.declared.types.Portion.{Portion}
+use Rattle.boundary.specs.Boundary.{portionFrom}
 use Rattle.boundary.specs.BoundaryLaws.{byte-is}
 use Rattle.boundary.proofs.types.piece_out.Statement.{statement}
 use Rattle.boundary.proofs.types.piece_out.Tie as tie
@@ -12,5 +13,6 @@ piece-out-spec =
     tie.close
     (tie.spec
     (λ c. search needs)
-    (λ c. let r = c .before .before .before .args .r in
-    ap {B = Portion} (λ (n : ℕ). record { armed = n; ticks = r .arm .ticks; counts = r .counts; stop = r .stop; read = r .read; count = r .count; wrote = r .wrote }) (byte-is (r .arm .armed))))
+    (λ c κs. tt)
+    (λ c. let r = c .before .before .before .before .args .r in
+    c .portion-of .ensures ∙ ap {B = Portion} (λ (n : ℕ). portionFrom n (r .arm .ticks) (r .counts) (r .stop) (r .read) (r .count) (r .wrote)) (byte-is (r .arm .armed))))

@@ -3,6 +3,7 @@ use mathlib.Core.Path.{_≡_, ap}
 use Prim.Native.Nat.{ℕ}
 use borrow.Author.Needs.{needs}
 use Rattle.boundary.specs.declared.types.Saved.{Saved}
+use Rattle.boundary.specs.Boundary.{savedFrom}
 use Rattle.boundary.specs.BoundaryLaws.{byte-is}
 use Rattle.boundary.proofs.types.run_out.Statement.{statement}
 use Rattle.boundary.proofs.types.run_out.Tie as tie
@@ -13,4 +14,4 @@ run-out-spec =
     (tie.spec
     (λ c. search needs)
     (λ c. let a = c .before .before .before .before .args .run in
-    ap {B = Saved} (λ (n : ℕ). record { armed = n; ticks = a .arm .ticks; counts = a .counts; states = a .states }) (byte-is (a .arm .armed))))
+    ap {B = Saved} (λ (n : ℕ). savedFrom n (a .arm .ticks) (a .counts) (a .states)) (byte-is (a .arm .armed))))

@@ -1,8 +1,9 @@
 -- `step_out`: the bool as a number.
-use mathlib.Core.Path.{_≡_, ap}
+use mathlib.Core.Path.{_≡_, ap, _∙_}
 use Prim.Native.Nat.{ℕ}
 use borrow.Author.Needs.{needs}
 use Rattle.boundary.specs.declared.types.Handed.{Handed}
+use Rattle.boundary.specs.Boundary.{handedFrom}
 use Rattle.boundary.specs.BoundaryLaws.{byte-is}
 use Rattle.boundary.proofs.types.step_out.Statement.{statement}
 use Rattle.boundary.proofs.types.step_out.Tie as tie
@@ -12,5 +13,6 @@ step-out-spec =
     tie.close
     (tie.spec
     (λ c. search needs)
-    (λ c. let l = c .before .before .before .before .args .l in
-    ap {B = Handed} (λ (n : ℕ). record { armed = n; ticks = l .arm .ticks; counts = l .counts; answer = l .answer }) (byte-is (l .arm .armed))))
+    (λ c κs. tt)
+    (λ c. let l = c .before .before .before .before .before .args .l in
+    c .handed-of .ensures ∙ ap {B = Handed} (λ (n : ℕ). handedFrom n (l .arm .ticks) (l .counts) (l .answer)) (byte-is (l .arm .armed))))

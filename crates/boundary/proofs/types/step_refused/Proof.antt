@@ -4,4 +4,4 @@ use Rattle.boundary.proofs.types.step_refused.Statement.{statement}
 use Rattle.boundary.proofs.types.step_refused.Tie as tie
 
 pub step-refused-spec : {M : Type 1} → statement M
-step-refused-spec = tie.close (tie.spec (λ c κs. tt) (λ c. rw (c .bare .ensures)))
+step-refused-spec = tie.close (tie.spec (λ c κs. tt) (λ c κs. tt) (λ c. rw (c .handed-of .ensures, c .before .bare .ensures)))

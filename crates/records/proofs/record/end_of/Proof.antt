@@ -2,7 +2,7 @@
 use native.Mathlib.Omega.{arith}
 use borrow.Author.Needs.{needs}
 use Rattle.records.specs.RecordLaws.{cut-head, cut-body}
-use Rattle.records.specs.PartLaws.{cut-end}
+use Rattle.records.specs.RecordPartLaws.{cut-end}
 use Rattle.records.proofs.record.end_of.Statement.{statement}
 use Rattle.records.proofs.record.end_of.Tie as tie
 

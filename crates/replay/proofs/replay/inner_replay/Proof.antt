@@ -14,21 +14,22 @@ use Rattle.state.specs.declared.types.Arm.{Arm}
 use Rattle.state.specs.declared.types.Counts.{Counts}
 use Rattle.state.specs.Tables.{configFrom, runFrom}
 use Rattle.state.specs.Sized.{LentState}
+use Rattle.dispatch.specs.Dispatch.{stepRoom}
 use Rattle.arming.specs.declared.Ticked.{Ticked}
 use Rattle.arming.specs.Arming.{tickedBy}
 use Rattle.steprules.specs.declared.types.Answer.{Answer}
-use Rattle.steprules.specs.Bare.{bareAnswer}
+use Rattle.steprules.specs.Makers.{bareAnswer, stepFrom}
 use Rattle.steprules.specs.Step.{tickStep}
 use Rattle.steprules.specs.Found.{lend}
 use Rattle.steprules.specs.MovedOn.{lend-states, lend-rows, fault-moved, fault-put}
 use Rattle.history.specs.Plain.{packet, tick, fault}
 use Rattle.replayrules.specs.declared.types.Reached.{Reached}
 use Rattle.replayrules.specs.RecordingLaws.{is-packet, is-tick, long-tick, only, fault-sized, packet-event, tick-event, fault-event}
-use Rattle.replayrules.specs.Recording.{outputFull, kindRefusal}
+use Rattle.replayrules.specs.Recording.{outputFull, kindRefusal, eventRoom, headSize}
 use Rattle.replayrules.specs.PathLaws.{packet-over, fault-over}
 use Rattle.replayrules.specs.OutputLaws.{partFrom, part-is}
 use Rattle.replayrules.specs.Walk.{Told, Going, start, same, ends, cuts, found, refuses, cramped, goes-on, goes-on-silent}
-use Rattle.replayrules.specs.Replay.{stoppedAt, pieceLeft, Replays}
+use Rattle.replayrules.specs.Replay.{stoppedAt, pieceLeft, Replays, reachedAt}
 use Rattle.replay.proofs.replay.inner_replay.Statement.{statement}
 use Rattle.replay.proofs.replay.inner_replay.Tie as tie
 
@@ -60,7 +61,7 @@ module _ (h : tie.At-loop Inv-loop μ-loop) where
   abbrev Stops : ℕ → Type 0
   Stops n = Told lent (entry .args .recording .now) (entry .args .out .now) s₀ (h .loop .out) (stoppedAt (runFrom (h .loop .armed) (h .loop .counted) (h .loop .states)) n (h .loop .read) (h .loop .count) (h .loop .wrote))
 
-  here : {n : ℕ} {r : Reached} → Stops n → r ≡ record { arm = h .loop .armed; counts = h .loop .counted; stop = n; read = h .loop .read; count = h .loop .count; wrote = h .loop .wrote }
+  here : {n : ℕ} {r : Reached} → Stops n → r ≡ reachedAt (h .loop .armed) (h .loop .counted) n (h .loop .read) (h .loop .count) (h .loop .wrote)
       → Replays lent s₀ (entry .args .recording .now) (entry .args .out .now) r (h .loop .states) (h .loop .out)
   here t e = record { told = ap (λ (x : Reached). pieceLeft x (h .loop .states)) e ∙ t .told; output = t .output }
 
@@ -106,18 +107,18 @@ module _ (c : tie.After-word-at Inv-loop μ-loop) where
   size = length (bodyAt bs (head .loop .read) end)
 
   -- and there is room for its reply
-  module _ (h : 266 ≤ length out - head .loop .wrote) where
-    room : 266 ≤ length out₀ - head .loop .wrote
+  module _ (h : eventRoom ≤ length out - head .loop .wrote) where
+    room : eventRoom ≤ length out₀ - head .loop .wrote
     room = omega (arith, same g, h)
 
-    fits : head .loop .wrote + 266 ≤ length out
+    fits : head .loop .wrote + eventRoom ≤ length out
     fits = omega (arith, same g, room)
 
-    part-room : 260 ≤ length (partFrom out (head .loop .wrote + 6))
-    part-room = rw (part-is out (head .loop .wrote + 6)) (omega (arith, length-drop (head .loop .wrote + 6) out, fits))
+    part-room : stepRoom ≤ length (partFrom out (head .loop .wrote + headSize))
+    part-room = rw (part-is out (head .loop .wrote + headSize)) (omega (arith, length-drop (head .loop .wrote + headSize) out, fits))
 
   -- or not
-  stops-full : {n : ℕ} → n ≡ kindRefusal kind size → n ≡ 0 → length out - head .loop .wrote < 266 → Stops head outputFull
+  stops-full : {n : ℕ} → n ≡ kindRefusal kind size → n ≡ 0 → length out - head .loop .wrote < eventRoom → Stops head outputFull
   stops-full e z h = cramped g inside whole e z (omega (arith, same g, h))
 
 -- a packet, with room
@@ -146,7 +147,7 @@ module _ (c : tie.Else8 Inv-loop μ-loop) where
 
 -- a tick on the arm record is the tick step
 ticks : (arm : Arm) (counts : Counts) (states : List ℕ) (t : Ticked) (a : Answer) → t ≡ tickedBy arm → a ≡ bareAnswer (t .answer)
-    → record { run = runFrom (t .arm) counts states; answer = a } ≡ tickStep (runFrom arm counts states)
+    → stepFrom (runFrom (t .arm) counts states) a ≡ tickStep (runFrom arm counts states)
 unfolding tickStep
 ticks arm counts states t a e q = rw (q, e)
 
@@ -157,40 +158,40 @@ returns : tie.Need-returns Inv-loop μ-loop
 returns c =
     let t = c .before in
     let h = t .before .before .before in
-    here h (cuts (h .loop .inv .0) (t .before .before .loop-test .taken) (t .before .end-of .ensures .is-cut (t .if1 .taken))) (c .stopped .ensures)
+    here h (cuts (h .loop .inv .0) (t .before .before .loop-test .taken) (t .before .end-of .ensures .is-cut (t .if1 .taken))) (c .reached-at .ensures)
 
 returns-2 : tie.Need-returns-2 Inv-loop μ-loop
 returns-2 c =
     let w = c .before in
     let e = w .before .before .before in
-    here (head e) (stops-full e (only (is-packet (w .before .if2 .taken))) refl (w .if3 .taken)) (c .stopped2 .ensures)
+    here (head e) (stops-full e (only (is-packet (w .before .if2 .taken))) refl (w .if3 .taken)) (c .reached-at2 .ensures)
 
 returns-3 : tie.Need-returns-3 Inv-loop μ-loop
 returns-3 c =
     let w = c .before in
     let e = w .before .before .before .before in
-    here (head e) (refuses (g e) (inside e) (whole e) (only (long-tick (w .before .if4 .taken) (w .if5 .taken))) (λ z. omega arith)) (c .stopped3 .ensures)
+    here (head e) (refuses (g e) (inside e) (whole e) (only (long-tick (w .before .if4 .taken) (w .if5 .taken))) (λ z. omega arith)) (c .reached-at3 .ensures)
 
 returns-4 : tie.Need-returns-4 Inv-loop μ-loop
 returns-4 c =
     let w = c .before in
     let e = w .before .before .before .before .before in
-    here (head e) (stops-full e (only (is-tick (w .before .before .if4 .taken) (w .before .if5 .left))) refl (w .if6 .taken)) (c .stopped4 .ensures)
+    here (head e) (stops-full e (only (is-tick (w .before .before .if4 .taken) (w .before .if5 .left))) refl (w .if6 .taken)) (c .reached-at4 .ensures)
 
 returns-5 : tie.Need-returns-5 Inv-loop μ-loop
 returns-5 c =
     let w = c .before in
     let e = w .before .before .before .before .before in
-    here (head e) (refuses (g e) (inside e) (whole e) (w .before .refusal .ensures) (w .if7 .taken)) (c .stopped5 .ensures)
+    here (head e) (refuses (g e) (inside e) (whole e) (w .before .refusal .ensures) (w .if7 .taken)) (c .reached-at5 .ensures)
 
 returns-6 : tie.Need-returns-6 Inv-loop μ-loop
 returns-6 c =
     let w = c .before in
     let e = w .before .before .before .before .before .before in
-    here (head e) (stops-full e (w .before .before .refusal .ensures) (w .before .if7 .left) (w .if8 .taken)) (c .stopped6 .ensures)
+    here (head e) (stops-full e (w .before .before .refusal .ensures) (w .before .if7 .left) (w .if8 .taken)) (c .reached-at6 .ensures)
 
 returns-7 : tie.Need-returns-7 Inv-loop μ-loop
-returns-7 c = let t = c .before in here (t .before) (ends (t .before .loop .inv .0) (t .loop-test .left)) (c .stopped7 .ensures)
+returns-7 c = let t = c .before in here (t .before) (ends (t .before .loop .inv .0) (t .loop-test .left)) (c .reached-at7 .ensures)
 
 loop-again : tie.Need-loop-again Inv-loop μ-loop
 loop-again c =
@@ -235,7 +236,7 @@ loop-again-3 c =
     )
 
 -- the place of a reply
-placed : (e : tie.After-word-at Inv-loop μ-loop) → 266 ≤ length (out e) - head e .loop .wrote → head e .loop .wrote + 6 < 18446744073709551616
+placed : (e : tie.After-word-at Inv-loop μ-loop) → eventRoom ≤ length (out e) - head e .loop .wrote → head e .loop .wrote + headSize < 18446744073709551616
 placed e h = omega (arith, room e h, bounded (entry (head e)))
 
 pub inner-replay-spec : {M : Type 1} → statement M

@@ -31,7 +31,7 @@ module _ (c : tie.After-lent-keeps) where
 returns : tie.Need-returns
 returns c =
     let j = c .before .before in
-    rw (c .stopped .ensures) (breaks _ (run j) _ _ (judged j (not-true (j .lent-keeps .result) (c .before .if1 .taken))))
+    rw (c .reached-at .ensures) (breaks _ (run j) _ _ (judged j (not-true (j .lent-keeps .result) (c .before .if1 .taken))))
 
 pub lent-resume-spec : {M : Type 1} → statement M
 lent-resume-spec =

@@ -17,7 +17,8 @@ replay-spec =
     tie.close
     (tie.spec
     (λ c κs. tt)
-    (λ c. refused _ _ _ (c .before .before .load .ensures) (c .if1 .taken))
+    (λ c κs. tt)
+    (λ c. rw (c .no-counts .ensures) (refused _ _ _ (c .before .before .before .load .ensures) (c .before .if1 .taken)))
     (λ c κs. lent (c .before .before .before .before .before .before .before .before .before .before .before .before .before .before .before .before .before))
     (λ c. search needs)
     (λ c. let p = c .before .before .before in

@@ -1,7 +1,6 @@
--- `kept`: arm record and counters as they were, and the bare answer.
-use borrow.Author.Needs.{needs}
+-- `kept`: a bare answer with all as it came.
 use Rattle.steprules.proofs.types.kept.Statement.{statement}
 use Rattle.steprules.proofs.types.kept.Tie as tie
 
 pub kept-spec : {M : Type 1} → statement M
-kept-spec = tie.close (tie.spec (λ c κs. search needs) (λ c. simp (c .bare .ensures)))
+kept-spec = tie.close (tie.spec (λ c κs. tt) (λ c κs. tt) (λ c. rw (c .left-of .ensures, c .before .bare .ensures)))

@@ -53,10 +53,10 @@ inner-fault-requires c κs =
 
 returns-3 : tie.Need-returns-3
 returns-3 c =
-    let m = c .before .before .before in
+    let m = c .before .before .before .before in
     let room = m .before .before .before in
     let j = room .before .before in
-    fault-leaves _ _ _ _ _ _ (kept (room .before)) (sized j .columns) (room .if2 .left) _ _ _ _ (m .inner-fault .ensures (config j .protected)) (c .after-fault .ensures)
+    rw (c .left-of .ensures) (fault-leaves _ _ _ _ _ _ (kept (room .before)) (sized j .columns) (room .if2 .left) _ _ _ _ (m .inner-fault .ensures (config j .protected)) (c .before .after-fault .ensures))
 
 pub lent-fault-spec : {M : Type 1} → statement M
 lent-fault-spec =
@@ -69,5 +69,6 @@ lent-fault-spec =
     returns-2
     inner-fault-requires
     (λ c κs. search needs)
+    (λ c κs. tt)
     (λ c. search needs)
     returns-3)

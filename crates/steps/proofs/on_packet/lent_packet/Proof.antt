@@ -55,10 +55,10 @@ inner-packet-requires c κs =
 
 returns-3 : tie.Need-returns-3
 returns-3 c =
-    let m = c .before .before .before .before .before in
+    let m = c .before .before .before .before .before .before in
     let room = m .before .before .before in
     let a = config (room .before .before) in
-    packet-leaves _ _ _ _ _ _ (kept (room .before)) (room .if2 .left) _ _ _ _ (m .inner-packet .ensures (a .responses) (a .latching) (a .argcounts) (a .args)) (c .after-packet .ensures)
+    rw (c .left-of .ensures) (packet-leaves _ _ _ _ _ _ (kept (room .before)) (room .if2 .left) _ _ _ _ (m .inner-packet .ensures (a .responses) (a .latching) (a .argcounts) (a .args)) (c .before .after-packet .ensures))
 
 pub lent-packet-spec : {M : Type 1} → statement M
 lent-packet-spec =
@@ -71,5 +71,6 @@ lent-packet-spec =
     returns-2
     inner-packet-requires
     (λ c κs. search needs)
+    (λ c κs. tt)
     (λ c. search needs)
     returns-3)

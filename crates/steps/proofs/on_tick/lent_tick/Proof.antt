@@ -37,6 +37,7 @@ lent-tick-spec =
     rw (c .kept .ensures) (tick-breaks _ _ _ _ (judged j (not-true (j .lent-keeps .result) (c .before .if1 .taken)))))
     (λ c κs. search needs)
     (λ c κs. search needs)
-    (λ c. let t = c .before .before in
+    (λ c κs. tt)
+    (λ c. let t = c .before .before .before in
     let j = t .before .before in
-    tick-leaves _ _ _ _ (judged j (not-false (j .lent-keeps .result) (t .before .if1 .left))) _ _ (t .tick-of .ensures) (c .bare .ensures)))
+    rw (c .left-of .ensures) (tick-leaves _ _ _ _ (judged j (not-false (j .lent-keeps .result) (t .before .if1 .left))) _ _ (t .tick-of .ensures) (c .before .bare .ensures))))
