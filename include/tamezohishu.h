@@ -112,8 +112,8 @@ enum {
  */
 enum {
     TZ_STACK_ALONE = 64,    /* tz_abi 8, tz_judge 8, tz_arguments 8, tz_build 40 */
-    TZ_STACK_STEP = 1024,   /* tz_lent_packet 528, tz_lent_tick 448, tz_lent_fault 496, tz_lent_resume 768: so the steps too */
-    TZ_STACK_LOAD = 8192    /* tz_load 5,008, tz_replay 6,304: they build the tables there */
+    TZ_STACK_STEP = 1024,   /* tz_lent_packet 528, tz_lent_tick 448, tz_lent_fault 496, tz_lent_resume 800: so the steps too */
+    TZ_STACK_LOAD = 8192    /* tz_load 5,040, tz_replay 6,352: they build the tables there */
 };
 
 /* ---- the state ---- */

@@ -2,7 +2,7 @@
 # for it. So a struct, a signature or a number can't change while its number stays. Comments and blanks may change.
 set -eu
 cd "$(dirname "$0")/.."
-header=include/tamezohishu.h crate=rust/tamezohishu/src/ffi.rs calls=crates/export/src/calls.rt spec=crates/boundary/specs/Boundary.antt
+header=include/tamezohishu.h crate=rust/tamezohishu/src/ffi.rs calls=crates/export/src/calls.rt spec=crates/export_rules/specs/Boundary.antt
 failed=0
 bad() { printf 'abi: %s\n' "$*" >&2; failed=1; }
 

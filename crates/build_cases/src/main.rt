@@ -1,8 +1,8 @@
 // Builds the worked packets of document 01 from their fields, and packets at every limit and one past it, each into a buffer
 // full of EE. Prints of each its name, the answer and the bytes written; the judge's answer, id and argument count for what was
 // written; the byte behind that; and of a short packet its bytes in hex.
-use buildrules::types::Built;
-use packet::judge;
+use build_rules::types::Built;
+use packet_judge::judge;
 
 fn main() {
     let mut out = io::buffer();
@@ -124,7 +124,7 @@ fn one(
     room: usize,
 ) -> usize {
     let mut buffer = [0xEEu8; 400];
-    let built = builder::build(apid, count, id, args, pads, first_mut(&mut buffer, room));
+    let built = build_packet::build(apid, count, id, args, pads, first_mut(&mut buffer, room));
     let n = text::put(out, at, name);
     show(out, n, built, &buffer)
 }

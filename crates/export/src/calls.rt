@@ -1,24 +1,24 @@
 // The functions that C calls. A slice is a pointer and a length there, an array that is lent a pointer alone. Each takes any
 // bytes, any configuration and any run. A step is lent the columns of the configuration and the fault states, and copies none;
 // the header has a wrapper for each that takes a pointer to the configuration and one to the run.
-use boundary::types;
-use boundary::types::Handed;
-use boundary::types::Loading;
-use boundary::types::Part;
-use boundary::types::Portion;
-use buildrules::types::Built;
-use packet::judge::Judged;
-use replayrules::types::Replayed;
+use build_rules::types::Built;
+use export_rules::types;
+use export_rules::types::Handed;
+use export_rules::types::Loading;
+use export_rules::types::Part;
+use export_rules::types::Portion;
+use packet_judge::judge::Judged;
+use replay_rules::types::Replayed;
 use state::types::Counts;
 use state::types::Numbers;
 ghost use mathlib.Core.Path.{_≡_};
 ghost use lib.ListN.{length};
-ghost use Rattle.packetrules.specs.Judge.{judgeOf};
+ghost use Rattle.packet_rules.specs.Judge.{judgeOf};
 ghost use Rattle.state.specs.Tables.{configFrom};
-ghost use Rattle.dispatch.specs.Dispatch.{over};
-ghost use Rattle.replayrules.specs.Replay.{replayOf, replayBytes};
-ghost use Rattle.buildrules.specs.Build.{given, builtOf, builtOutput};
-ghost use Rattle.boundary.specs.Boundary.{abi, partOf, loadingOf, tickCall, savedFrom, stepping, PacketCalls, FaultCalls, ResumeCalls};
+ghost use Rattle.step_effects.specs.Dispatch.{over};
+ghost use Rattle.replay_rules.specs.Replay.{replayOf, replayBytes};
+ghost use Rattle.build_rules.specs.Build.{given, builtOf, builtOutput};
+ghost use Rattle.export_rules.specs.Boundary.{abi, partOf, loadingOf, tickCall, savedFrom, stepping, PacketCalls, FaultCalls, ResumeCalls};
 
 // Which structs, signatures and numbers these are: the header's TZ_ABI. It moves with every change of one.
 #[no_mangle]
@@ -33,7 +33,7 @@ pub extern "C" fn tz_abi() -> u32
 pub extern "C" fn tz_judge(packet: &[u8]) -> Judged
     ensures { λ r. ⌜ r ≡ judgeOf (now (packet .entry)) ⌝ }
 {
-    packet::judge::judge(packet)
+    packet_judge::judge::judge(packet)
 }
 
 // The argument part of a packet, as offset and length.
@@ -41,8 +41,8 @@ pub extern "C" fn tz_judge(packet: &[u8]) -> Judged
 pub extern "C" fn tz_arguments(packet: &[u8]) -> Part
     ensures { λ r. ⌜ r ≡ partOf (now (packet .entry)) ⌝ }
 {
-    let part = packet::enquiry::arguments(packet);
-    if packet::judge::refusal(packet) != 0 {
+    let part = packet_judge::enquiry::arguments(packet);
+    if packet_judge::judge::refusal(packet) != 0 {
         return Part {
             offset: 0,
             length: part.len(),
@@ -67,7 +67,7 @@ pub extern "C" fn tz_build(
     ensures told { λ r. ⌜ r ≡ builtOf (given apid count id (now (args .entry)) pads) (length (now (out .entry))) ⌝ }
     ensures output { λ r. ⌜ now (out .exit) ≡ builtOutput (given apid count id (now (args .entry)) pads) (now (out .entry)) ⌝ }
 {
-    builder::build(apid, count, id, args, pads, out)
+    build_packet::build(apid, count, id, args, pads, out)
 }
 
 // Loads a configuration image.
@@ -75,7 +75,7 @@ pub extern "C" fn tz_build(
 pub extern "C" fn tz_load(image: &[u8]) -> Loading
     ensures { λ r. ⌜ r ≡ loadingOf (now (image .entry)) ⌝ }
 {
-    let loaded = image::load::load(image);
+    let loaded = image_load::load::load(image);
     let config = loaded.config;
     let run = loaded.run;
     Loading {

@@ -10,17 +10,17 @@ use lib.Dec.{eqb, ltb}
 use native.Mathlib.Nat.{zero-add}
 use lib.ListN.{length, length-map, List·getD-map}
 use borrow.Author.Tests.{eq-eqb, ne-eqb, lt-ltb, eqb-true, ltb-true}
-use Rattle.packetrules.specs.Layout.{commandId}
-use Rattle.packetrules.specs.Judge.{argumentsOf}
+use Rattle.packet_rules.specs.Layout.{commandId}
+use Rattle.packet_rules.specs.Judge.{argumentsOf}
 use Rattle.state.specs.declared.types.Run.{Run}
 use Rattle.state.specs.Tables.{routed, listed, tablesOf}
 use Rattle.state.specs.ArrayLaws.{listed-back}
 use Rattle.state.specs.Rules.{own, member}
 use Rattle.state.specs.Keeps.{Each, ProtectedOk}
 use Rattle.state.specs.KeepsLaws.{both}
-use Rattle.records.specs.Records.{Record, recordsOf}
-use Rattle.image.specs.Image.{ofKind, startsOfRecords, loadOf}
-use Rattle.image.specs.Theorems.{loads-good, loaded-tables, loaded-run}
+use Rattle.image_rules.specs.Records.{Record, recordsOf}
+use Rattle.image_load.specs.Image.{ofKind, startsOfRecords, loadOf}
+use Rattle.image_load.specs.LoadTheorems.{loads-good, loaded-tables, loaded-run}
 use Rattle.history.specs.Plain.{Event, packet, wanted, namesFault, faultNamed, selects, nearest, ticksSince, isArm, timeout, lasts, armed, accepted, packetAnswer, packetReply, Reply, Row, rowOf, noRow, anyRow, tables, rows, rowHere, meantBy, stateOf, reply, replies, latestFirst}
 use Rattle.history.specs.Path.{run, after}
 use Rattle.history.specs.Known.{known, knownCounts}

@@ -8,21 +8,21 @@ use native.Mathlib.Omega.{arith}
 use lib.Dec.{eqb, eqb·suc-zero}
 use lib.ListN.{length}
 use borrow.Author.Tests.{ne-eqb}
-use Rattle.packetrules.specs.Layout.{commandId}
+use Rattle.packet_rules.specs.Layout.{commandId}
 use Rattle.wire.specs.Check.{check}
-use Rattle.packetrules.specs.Judge.{argumentsOf}
+use Rattle.packet_rules.specs.Judge.{argumentsOf}
 use Rattle.state.specs.Tables.{Tables, faultId, routed}
 use Rattle.state.specs.Rules.{member}
 use Rattle.state.specs.Rules as rules
-use Rattle.records.specs.Records.{Record}
-use Rattle.dispatch.specs.Dispatch.{destOf}
-use Rattle.answers.specs.declared.own.Own.{Own}
-use Rattle.answers.specs.declared.own.Own.the-variants.{Arm, ResetCounters, NoOp, NoOpWithArgument, Enable, Disable, Clear, ClearAll}
-use Rattle.answers.specs.Own.{ruleOf, ownCommand, isReset}
+use Rattle.image_rules.specs.Records.{Record}
+use Rattle.step_effects.specs.Dispatch.{destOf}
+use Rattle.step_answers.specs.declared.own.Own.{Own}
+use Rattle.step_answers.specs.declared.own.Own.the-variants.{Arm, ResetCounters, NoOp, NoOpWithArgument, Enable, Disable, Clear, ClearAll}
+use Rattle.step_answers.specs.Own.{ruleOf, ownCommand, isReset}
 use Rattle.state.specs.KeepsLaws.{both}
-use Rattle.answers.specs.OwnLaws as own
-use Rattle.answers.specs.Answers.{blocked, routeAnswer, selectedAnswer, answerFor, answerTo}
-use Rattle.answers.specs.Answers as steps
+use Rattle.step_answers.specs.OwnLaws as own
+use Rattle.step_answers.specs.Answers.{blocked, routeAnswer, selectedAnswer, answerFor, answerTo}
+use Rattle.step_answers.specs.Answers as steps
 use Rattle.history.specs.Plain.{Event, wanted, namesFault, faultNamed, anyRow, tables, meantBy, selects, isArm, armed, stopped, ownAnswer, packetAnswer}
 use Rattle.history.specs.RowsLaws.{meant-is, any-is}
 use Rattle.state.specs.Tables.{Route}

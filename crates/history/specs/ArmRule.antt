@@ -6,11 +6,11 @@ use mathlib.Core.Bool.{Bool, true, false, false≢true}
 use mathlib.Core.List.{List, []}
 use Prim.Native.Nat.{ℕ, _≤_}
 use borrow.Author.Tests.{le-leb}
-use Rattle.packetrules.specs.Layout.{commandId}
+use Rattle.packet_rules.specs.Layout.{commandId}
 use Rattle.state.specs.Rules.{member}
-use Rattle.dispatch.specs.Dispatch.{stepRoom}
-use Rattle.records.specs.Records.{Record, recordsOf}
-use Rattle.image.specs.Image.{loadOf}
+use Rattle.step_effects.specs.Dispatch.{stepRoom}
+use Rattle.image_rules.specs.Records.{Record, recordsOf}
+use Rattle.image_load.specs.Image.{loadOf}
 use Rattle.history.specs.Plain.{Event, packet, Reply, accepted, armed, tables, reply}
 use Rattle.history.specs.Agree.{LetPast, past-armed, armed-past, let-past, not-past}
 use Rattle.history.specs.Calls.{Call, stepOf, afterCalls, heard, CallBytes, call-behind}

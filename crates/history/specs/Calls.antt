@@ -11,15 +11,14 @@ use Rattle.state.specs.Tables.{Tables, tablesOf}
 use Rattle.state.specs.Test.{keepsRules}
 use Rattle.state.specs.Keeps.{Keeps}
 use Rattle.state.specs.KeepsLaws.{kept, keeps}
-use Rattle.dispatch.specs.Dispatch.{stepRoom}
-use Rattle.steprules.specs.declared.types.Stepped.{Stepped}
-use Rattle.steprules.specs.Makers.{unchanged}
-use Rattle.steprules.specs.Step.{packetStepOf, tickStepOf, faultStepOf}
-use Rattle.steprules.specs.Demand1.{packet-20-broken, tick-20-broken, fault-20-broken}
-use Rattle.steprules.specs.RulesKept.{Bytes, packet-keeps, tick-keeps, fault-keeps}
-use Rattle.records.specs.Records.{Record, recordsOf}
-use Rattle.image.specs.Image.{loadOf}
-use Rattle.image.specs.Theorems.{loaded-tables, loaded-keeps}
+use Rattle.step_rules.specs.declared.types.Stepped.{Stepped}
+use Rattle.step_rules.specs.Makers.{unchanged}
+use Rattle.step_rules.specs.Step.{packetStepOf, tickStepOf, faultStepOf}
+use Rattle.step_rules.specs.Demand1.{packet-20-broken, tick-20-broken, fault-20-broken}
+use Rattle.step_rules.specs.RulesKept.{Bytes, packet-keeps, tick-keeps, fault-keeps}
+use Rattle.image_rules.specs.Records.{Record, recordsOf}
+use Rattle.image_load.specs.Image.{loadOf}
+use Rattle.image_load.specs.LoadTheorems.{loaded-tables, loaded-keeps}
 use Rattle.history.specs.Plain.{Event, packet, tick, fault, Reply, bareReply, reply}
 use Rattle.history.specs.Path.{step, replyOf}
 use Rattle.history.specs.Known.{known, knownCounts}
@@ -33,11 +32,11 @@ pub record Call : Type 0 where
   pub event : Event
   pub room : ℕ
 
--- a tick writes nothing and asks for no room
+-- 260 bytes; a tick writes nothing and asks for no room
 abbrev pub roomy : Event → ℕ → Bool
-roomy (packet p) room = leb stepRoom room
+roomy (packet p) room = leb 260 room
 roomy tick room = true
-roomy (fault f) room = leb stepRoom room
+roomy (fault f) room = leb 260 room
 
 -- the public step
 abbrev pub stepOf : Config → Run → Event → ℕ → Stepped

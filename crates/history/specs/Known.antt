@@ -8,7 +8,7 @@ use lib.ListN.{length}
 use Rattle.state.specs.declared.types.Run.{Run}
 use Rattle.state.specs.declared.types.Counts.{Counts}
 use Rattle.state.specs.Tables.{runFrom}
-use Rattle.records.specs.Records.{Record}
+use Rattle.image_rules.specs.Records.{Record}
 use Rattle.history.specs.RowsLaws.{statesFor}
 use Rattle.history.specs.Plain.{Event, nearest, ticksSince, isArm, timeout, armed, rows, stateOf, count, movesA, movesR, movesD, movesP, movesU, movesI, movesF}
 

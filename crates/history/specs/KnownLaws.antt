@@ -11,27 +11,27 @@ use native.Mathlib.Omega.{arith}
 use lib.Dec.{eqb, ltb, lit<}
 use lib.ListN.{length}
 use borrow.Author.Tests.{lt-ltb, le-ltb, ne-eqb, eqb-true, eqb-false}
-use Rattle.packetrules.specs.Layout.{commandId}
+use Rattle.packet_rules.specs.Layout.{commandId}
 use Rattle.wire.specs.Check.{check}
-use Rattle.packetrules.specs.Judge.{argumentsOf}
-use Rattle.packetrules.specs.Rejection.{isRejection}
+use Rattle.packet_rules.specs.Judge.{argumentsOf}
+use Rattle.packet_rules.specs.Rejection.{isRejection}
 use Rattle.state.specs.declared.types.Arm.{Arm}
 use Rattle.state.specs.declared.types.Run.{Run}
 use Rattle.state.specs.Tables.{faultId}
 use Rattle.state.specs.Rules.{member}
-use Rattle.records.specs.Records.{Record}
-use Rattle.faultstates.specs.FaultStates.{nextState, rowAfter, latchedBy}
-use Rattle.arming.specs.Arming.{unarmed, armedFor, armSet, armAfter, ticked, tickAnswer}
-use Rattle.counters.specs.Counters.{up, packetCounts, rejectedCounts, faultCounts}
-use Rattle.answers.specs.declared.own.Own.{Own}
-use Rattle.answers.specs.declared.own.Own.the-variants as own
-use Rattle.answers.specs.Own.{ruleOf, ownCommand, isReset}
-use Rattle.answers.specs.Answers as steps
-use Rattle.faultstates.specs.FaultStates as events
-use Rattle.steprules.specs.Step.{statesAfter, acted, acceptedStep, rejectedStep, packetStep, tickStep, faulted, faultStep}
-use Rattle.steprules.specs.StateLaws.{doneOn}
-use Rattle.steprules.specs.Packets.{refusal-under-not}
-use Rattle.steprules.specs.StepLaws.{packet-rejected, packet-accepted}
+use Rattle.image_rules.specs.Records.{Record}
+use Rattle.step_effects.specs.FaultStates.{nextState, rowAfter, latchedBy}
+use Rattle.step_arm.specs.Arming.{unarmed, armedFor, armSet, armAfter, ticked, tickAnswer}
+use Rattle.step_effects.specs.Counters.{up, packetCounts, rejectedCounts, faultCounts}
+use Rattle.step_answers.specs.declared.own.Own.{Own}
+use Rattle.step_answers.specs.declared.own.Own.the-variants as own
+use Rattle.step_answers.specs.Own.{ruleOf, ownCommand, isReset}
+use Rattle.step_answers.specs.Answers as steps
+use Rattle.step_effects.specs.FaultStates as events
+use Rattle.step_rules.specs.Step.{statesAfter, acted, acceptedStep, rejectedStep, packetStep, tickStep, faulted, faultStep}
+use Rattle.step_rules.specs.StateLaws.{doneOn}
+use Rattle.step_rules.specs.Packets.{refusal-under-not}
+use Rattle.step_rules.specs.StepLaws.{packet-rejected, packet-accepted}
 use Rattle.history.specs.Plain.{Event, packet, tick, fault, refusal, accepted, nearest, ticksSince, thisRow, whenEnabled, whenCleared, whenFaulted, faultAnswer, faultReply, more, tables, rows, rowHere, meantBy, rowMeant, selects, isArm, timeout, lasts, armed, packetAnswer, done, stateOf, faultNamed, packetReply, reply}
 use Rattle.history.specs.Path.{step, replyOf}
 use Rattle.history.specs.Known.{left, knownCounts, known}

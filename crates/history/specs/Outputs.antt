@@ -10,19 +10,19 @@ use lib.Dec.{eqb, leb, lit≤}
 use lib.ListN.{length, drop, length-append, length-drop}
 use lib.Seq.{drop-at}
 use borrow.Author.Tests.{ne-eqb, leb-true}
-use Rattle.packetrules.specs.Layout.{commandId}
-use Rattle.packetrules.specs.Judge.{argumentsOf}
-use Rattle.packetrules.specs.Parts.{arguments-few}
+use Rattle.packet_rules.specs.Layout.{commandId}
+use Rattle.packet_rules.specs.Judge.{argumentsOf}
+use Rattle.packet_rules.specs.PacketParts.{arguments-few}
 use Rattle.state.specs.declared.types.Config.{Config}
 use Rattle.state.specs.declared.types.Run.{Run}
 use Rattle.state.specs.Tables.{FaultRow, Tables, routed, tablesOf}
 use Rattle.state.specs.Keeps.{Each, RowOk}
-use Rattle.dispatch.specs.Dispatch.{commandBytes, over, sent, stepRoom}
-use Rattle.faultstates.specs.FaultStates.{meant, rowFor}
-use Rattle.steprules.specs.Step.{packetOutput, faultOutput}
-use Rattle.records.specs.Records.{Record, recordsOf}
-use Rattle.image.specs.Image.{loadOf}
-use Rattle.image.specs.Theorems.{loads-good}
+use Rattle.step_effects.specs.Dispatch.{commandBytes, over, sent, stepRoom}
+use Rattle.step_effects.specs.FaultStates.{meant, rowFor}
+use Rattle.step_rules.specs.Step.{packetOutput, faultOutput}
+use Rattle.image_rules.specs.Records.{Record, recordsOf}
+use Rattle.image_load.specs.Image.{loadOf}
+use Rattle.image_load.specs.LoadTheorems.{loads-good}
 use Rattle.history.specs.Plain.{Event, packet, tick, fault, Reply, bareReply, tables, reply}
 use Rattle.history.specs.Path.{step, bytesFor, replyOf}
 use Rattle.history.specs.Known.{known}

@@ -3,15 +3,15 @@ use mathlib.Core.Bool.{cond}
 use mathlib.Core.List.{List, [], _∷_}
 use Prim.Native.Nat.{ℕ}
 use lib.Dec.{eqb}
-use Rattle.packetrules.specs.Layout.{commandId}
-use Rattle.packetrules.specs.Judge.{argumentsOf}
+use Rattle.packet_rules.specs.Layout.{commandId}
+use Rattle.packet_rules.specs.Judge.{argumentsOf}
 use Rattle.state.specs.declared.types.Run.{Run}
 use Rattle.state.specs.Tables.{Tables}
-use Rattle.faultstates.specs.FaultStates.{meant, rowFor}
-use Rattle.dispatch.specs.Dispatch.{commandBytes}
-use Rattle.steprules.specs.declared.types.Answer.{Answer}
-use Rattle.steprules.specs.declared.types.Stepped.{Stepped}
-use Rattle.steprules.specs.Step.{packetStep, tickStep, faultStep}
+use Rattle.step_effects.specs.FaultStates.{meant, rowFor}
+use Rattle.step_effects.specs.Dispatch.{commandBytes}
+use Rattle.step_rules.specs.declared.types.Answer.{Answer}
+use Rattle.step_rules.specs.declared.types.Stepped.{Stepped}
+use Rattle.step_rules.specs.Step.{packetStep, tickStep, faultStep}
 use Rattle.history.specs.Plain.{Event, packet, tick, fault, Reply, replyFrom}
 
 -- one step

@@ -7,12 +7,12 @@ use mathlib.Core.Option.{Option, none, some}
 use Prim.Native.Nat.{ℕ, suc, _+_, _-_, _*_, _/_, _%_}
 use lib.Dec.{eqb, leb, ltb}
 use lib.ListN.{length, getD}
-use Rattle.packetrules.specs.Layout.{commandId}
-use Rattle.packetrules.specs.Judge.{refusalOf, argumentsOf}
+use Rattle.packet_rules.specs.Layout.{commandId}
+use Rattle.packet_rules.specs.Judge.{refusalOf, argumentsOf}
 use Rattle.state.specs.Tables.{Route, FaultRow, Tables, routed}
 use Rattle.state.specs.Rules.{own, member}
-use Rattle.records.specs.Records.{Record}
-use Rattle.image.specs.Image.{ofKind, rowIn, startIn, tablesOfRecords}
+use Rattle.image_rules.specs.Records.{Record}
+use Rattle.image_load.specs.Image.{ofKind, rowIn, startIn, tablesOfRecords}
 
 -- ---- events and replies
 
@@ -133,7 +133,8 @@ module _ (image : List Record) where
   abbrev pub meantBy : ℕ → Option ℕ
   meantBy f = placeNamed f rows
 
-  -- ---- what is known of a packet: the judge's refusal of it, or that it is accepted
+  -- ---- what is known of a packet beside its id and arguments: the judge's refusal of it, or that it is accepted. The image is
+  -- not asked: the judge is the same under all
 
   abbrev pub refusal : List ℕ → ℕ
   refusal p = refusalOf p

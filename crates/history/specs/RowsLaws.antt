@@ -16,10 +16,10 @@ use Rattle.state.specs.KeepsLaws.{length-listed}
 use Rattle.state.specs.Keeps.{Rising}
 use Rattle.state.specs.Lookup.{placeIn}
 use Rattle.state.specs.ArrayLaws.{listed-at}
-use Rattle.records.specs.Records.{Record}
-use Rattle.image.specs.Image.{ofKind, tablesOfRecords}
-use Rattle.faultstates.specs.FaultStates.{within, placeOf, meant, isPlace, rowFor, onward, clearAll}
-use Rattle.faultstates.specs.ActLaws.{place-row, place-of-row}
+use Rattle.image_rules.specs.Records.{Record}
+use Rattle.image_load.specs.Image.{ofKind, tablesOfRecords}
+use Rattle.step_effects.specs.FaultStates.{within, placeOf, meant, isPlace, rowFor, onward, clearAll}
+use Rattle.step_effects.specs.ActLaws.{place-row, place-of-row}
 use Rattle.history.specs.Plain.{Row, rowOf, noRow, further, placeNamed, anyRow, thisRow, whenCleared, tables, rows, rowHere, meantBy, rowMeant}
 
 abbrev plainRow : Row → FaultRow

@@ -8,7 +8,7 @@ use Prim.Native.Nat.{ℕ}
 use native.Mathlib.Omega.{arith}
 use lib.Dec.{eqb}
 use borrow.Author.Tests.{ne-eqb}
-use Rattle.records.specs.Records.{Record}
+use Rattle.image_rules.specs.Records.{Record}
 use Rattle.history.specs.Plain.{Event, latestFirst, packet, fault, Reply, thisRow, accepted, ticksSince, armed, packetAnswer, faultAnswer, rowHere, meantBy, stateOf, reply, replies, resets, selects, whenFaulted}
 use Rattle.history.specs.RowsLaws.{named-row}
 

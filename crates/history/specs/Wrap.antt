@@ -4,11 +4,11 @@ use mathlib.Core.Bool.{Bool, true, false}
 use mathlib.Core.List.{List, [], _∷_}
 use Prim.Native.Nat.{ℕ, zero, suc, _+_, _%_}
 use native.Mathlib.Omega.{arith}
-use Rattle.packetrules.specs.Judge.{refusalOf}
+use Rattle.packet_rules.specs.Judge.{refusalOf}
 use Rattle.state.specs.declared.types.Counts.{Counts}
 use Rattle.state.specs.Tables.{tablesOf}
-use Rattle.records.specs.Records.{Record, recordsOf}
-use Rattle.image.specs.Image.{loadOf}
+use Rattle.image_rules.specs.Records.{Record, recordsOf}
+use Rattle.image_load.specs.Image.{loadOf}
 use Rattle.history.specs.Plain.{Event, latestFirst, packet, fault, accepted, resets, count, movesR, movesF}
 use Rattle.history.specs.Path.{after}
 use Rattle.history.specs.Agree.{counters}

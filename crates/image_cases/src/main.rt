@@ -65,7 +65,7 @@ fn main() {
 
 // One line: the name, the answer, the offset.
 fn show(out: &mut [u8], at: usize, name: &[u8], bytes: &[u8]) -> usize {
-    let l = image::load::load(bytes);
+    let l = image_load::load::load(bytes);
     let n = text::put(out, at, name);
     let n = text::put(out, n, b": ");
     let n = text::put_number(out, n, l.answer as u64, b' ');

@@ -5,13 +5,13 @@ use mathlib.Core.List.{List, [], _∷_, _++_, map}
 use Prim.Native.Nat.{ℕ}
 use lib.ListN.{replicate, getD}
 use Rattle.wire.specs.Xor.{xorAll}
-use Rattle.packetrules.specs.Judge.{refusalOf, argumentsOf}
+use Rattle.packet_rules.specs.Judge.{refusalOf, argumentsOf}
 use Rattle.state.specs.Rules.{own, basicsOk, routeOk, protectedOk, rowOk, startOk}
-use Rattle.records.specs.Records.{recordAt, recordsOf}
-use Rattle.records.specs.Written.{tablesOfRecords, startsOfRecords}
-use Rattle.records.specs.Kinds.{rowSized}
-use Rattle.records.specs.Checks.{refusalBy, refusalAfter, recordRefusal}
-use Rattle.image.specs.Image.{loadOf}
+use Rattle.image_rules.specs.Records.{recordAt, recordsOf}
+use Rattle.image_rules.specs.Written.{tablesOfRecords, startsOfRecords}
+use Rattle.image_rules.specs.Kinds.{rowSized}
+use Rattle.image_rules.specs.Checks.{refusalBy, refusalAfter, recordRefusal}
+use Rattle.image_load.specs.Image.{loadOf}
 use Rattle.history.specs.Plain.{Event, packet, tick, fault, Reply, replies, bareReply}
 
 -- ---- configuration C and its packets

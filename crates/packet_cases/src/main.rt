@@ -1,7 +1,7 @@
 // Judges the worked packets of document 01, their damaged forms, and packets at the edges of the rules, and prints of each
 // its name and the judge's answer, command id and argument count; then what the enquiry gives for some of them.
-use packet::enquiry;
-use packet::judge;
+use packet_judge::enquiry;
+use packet_judge::judge;
 
 // G of document 01: command 20, no arguments.
 const G: [u8; 10] = [0x18, 0x01, 0xC0, 0x00, 0x00, 0x03, 0x00, 0xCE, 0x00, 0x14];

@@ -1,22 +1,23 @@
 // Replay of a recording: the state is judged once, and each event costs one inner step.
-use replayrules::recording;
-use replayrules::types;
-use replayrules::types::Piece;
-use replayrules::types::Reached;
-use replayrules::types::Replayed;
-use replayrules::types::reached_at;
+use replay_rules::recording;
+use replay_rules::types;
+use replay_rules::types::Piece;
+use replay_rules::types::Reached;
+use replay_rules::types::Replayed;
+use replay_rules::types::reached_at;
 use state::types::Arm;
 use state::types::Config;
 use state::types::Counts;
 use state::types::Numbers;
 use state::types::Run;
 use state::types::no_counts;
+use step_effects::counts;
 ghost use mathlib.Core.Path.{_≡_};
 ghost use lib.ListN.{length};
 ghost use Rattle.state.specs.Tables.{configFrom, runFrom};
 ghost use Rattle.state.specs.Sized.{LentState};
-ghost use Rattle.dispatch.specs.Dispatch.{over};
-ghost use Rattle.replayrules.specs.Replay.{Replays, Resumes, pieceOf, pieceBytes, replayOf, replayBytes};
+ghost use Rattle.step_effects.specs.Dispatch.{over};
+ghost use Rattle.replay_rules.specs.Replay.{Replays, Resumes, pieceOf, pieceBytes, replayOf, replayBytes};
 
 // A recording behind a state that keeps its rules, event by event, until a record is bad or less than `EVENT_ROOM` bytes of the output
 // are left. Columns and fault states are lent; arm record and counters go by value and are worked out beside each step. Each arm
@@ -52,11 +53,11 @@ pub fn inner_replay<'a>(
     let mut count = 0;
     let mut wrote = 0;
     while read < recording.len() {
-        let end = records::record::end_of(recording, read);
+        let end = image_rules::record::end_of(recording, read);
         if end == 0 {
             return reached_at(armed, counted, recording::CUT_SHORT, read, count, wrote);
         }
-        let kind = records::record::word_at(recording, read + 2);
+        let kind = image_rules::record::word_at(recording, read + 2);
         let from = read + 4;
         let body = &recording[from..end];
         if kind == 16 {
@@ -64,7 +65,7 @@ pub fn inner_replay<'a>(
                 return reached_at(armed, counted, recording::OUTPUT_FULL, read, count, wrote);
             }
             let place = wrote + recording::HEAD_SIZE;
-            let sent = packetstep::inner_packet(
+            let sent = step_packet::inner_packet(
                 numbers,
                 routeids,
                 dests,
@@ -77,7 +78,7 @@ pub fn inner_replay<'a>(
             );
             let answer = sent.answer;
             wrote = recording::put_numbers(out, wrote, answer);
-            counted = counters::after_packet(counted, answer.answer, sent.reset);
+            counted = counts::after_packet(counted, answer.answer, sent.reset);
             armed = sent.arm;
             count += 1;
             read = end;
@@ -88,8 +89,8 @@ pub fn inner_replay<'a>(
             if out.len() - wrote < recording::EVENT_ROOM {
                 return reached_at(armed, counted, recording::OUTPUT_FULL, read, count, wrote);
             }
-            let ticked = arming::tick_of(armed);
-            wrote = recording::put_numbers(out, wrote, steprules::types::bare(ticked.answer));
+            let ticked = step_arm::tick_of(armed);
+            wrote = recording::put_numbers(out, wrote, step_rules::types::bare(ticked.answer));
             armed = ticked.arm;
             count += 1;
             read = end;
@@ -102,8 +103,8 @@ pub fn inner_replay<'a>(
                 return reached_at(armed, counted, recording::OUTPUT_FULL, read, count, wrote);
             }
             let place = wrote + recording::HEAD_SIZE;
-            let fault = records::record::word_at(body, 0);
-            let answer = faultstep::inner_fault(
+            let fault = image_rules::record::word_at(body, 0);
+            let answer = step_fault::inner_fault(
                 numbers,
                 routeids,
                 dests,
@@ -117,7 +118,7 @@ pub fn inner_replay<'a>(
                 &mut out[place..],
             );
             wrote = recording::put_numbers(out, wrote, answer);
-            counted = counters::after_fault(counted, answer.answer);
+            counted = counts::after_fault(counted, answer.answer);
             count += 1;
             read = end;
         }
@@ -149,7 +150,7 @@ pub fn lent_resume<'a>(
         (now (responses .entry)) (now (latching .entry)) (now (argcounts .entry)) (now (args .entry)))
         (runFrom arm counts (now (states .entry))) (now (recording .entry)) (now (out .entry)) r (now (states .exit)) (now (out .exit)) ⌝ }
 {
-    if !statecheck::lent_keeps(
+    if !state_check::lent_keeps(
         numbers,
         routeids,
         dests,
@@ -215,7 +216,7 @@ pub fn replay(image: &[u8], recording: &[u8], out: &mut [u8]) -> Replayed
     ensures output { λ r. ⌜ now (out .exit)
         ≡ over (replayBytes (now (image .entry)) (now (recording .entry)) (length (now (out .entry)))) (now (out .entry)) ⌝ }
 {
-    let loaded = image::load::load(image);
+    let loaded = image_load::load::load(image);
     if loaded.answer != 0 {
         return Replayed {
             load: loaded.answer,

@@ -1,5 +1,5 @@
 // What the state is made of. The tables stand in arrays of numbers, one array for each column, because that is what a step
-// looks through fastest; rows that are not in use are zero. A run and its parts are made here and nowhere else.
+// looks through fastest; rows that are not in use are zero. A run is made here and nowhere else.
 ghost use mathlib.Core.Path.{_≡_};
 ghost use Rattle.state.specs.Tables.{noCounts, runFrom, firstRun};
 

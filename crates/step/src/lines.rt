@@ -1,7 +1,8 @@
 // The replies of a replay as text: a line for each, its four numbers. The bytes of a command behind them are passed over.
 use crate::input;
+use replay_rules::recording;
 
-// One line, from the six bytes that a reply begins with.
+// One line, from the numbers that a reply begins with.
 fn line(text: &mut [u8], at: usize, head: &[u8]) -> usize {
     let id = wire::word::little(wire::word::byte_at(head, 1), wire::word::byte_at(head, 2));
     let written = wire::word::little(wire::word::byte_at(head, 4), wire::word::byte_at(head, 5));
@@ -14,7 +15,7 @@ fn line(text: &mut [u8], at: usize, head: &[u8]) -> usize {
 // How many bytes a reply takes.
 fn size(head: &[u8]) -> usize {
     let written = wire::word::little(wire::word::byte_at(head, 4), wire::word::byte_at(head, 5));
-    written as usize + 6
+    written as usize + recording::HEAD_SIZE
 }
 
 // Writes the lines of so many replies. The text is written out before it could lack the room for a line.

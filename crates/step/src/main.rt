@@ -3,18 +3,18 @@ mod input;
 mod lines;
 mod session;
 
-use image::types::Loaded;
+use image_load::types::Loaded;
 
 // The image is the first 65,536 bytes of path.cfg; a file that can't be opened counts as an empty image.
 fn load() -> Loaded {
     let mut bytes = io::large_buffer();
     let fd = os::open_read(b"path.cfg");
     if fd < 0 {
-        return image::load::load(&[]);
+        return image_load::load::load(&[]);
     }
     let n = io::read_full(fd, &mut bytes);
     libc::close(fd);
-    image::load::load(&bytes[..n])
+    image_load::load::load(&bytes[..n])
 }
 
 fn main() {

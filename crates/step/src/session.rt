@@ -1,7 +1,7 @@
 // A session: standard input as a recording, piece by piece as the bytes come, each answer a line.
 use crate::input;
 use crate::lines;
-use replayrules::recording;
+use replay_rules::recording;
 use state::types::Config;
 use state::types::Run;
 

@@ -1,6 +1,6 @@
 // Steps at the edges of the rules on configuration C of document 01: output room, states that break their rules, own commands
 // and fault numbers. Prints of each its name, the four numbers, the arm record, the first row's state and the counters.
-use image::types::Loaded;
+use image_load::types::Loaded;
 use state::types::Config;
 use state::types::Counts;
 use state::types::Run;
@@ -70,7 +70,7 @@ const PAD: [u8; 12] = [
 ];
 
 fn main() {
-    let loaded = image::load::load(&C);
+    let loaded = image_load::load::load(&C);
     rooms(loaded);
     fault_room(loaded);
     broken(loaded);

@@ -1,18 +1,20 @@
 // The fault step on any state. `inner_fault` is the step of a state that keeps its rules.
-pub use faultstep::inner_fault;
 use state::types::Arm;
 use state::types::Config;
 use state::types::Counts;
 use state::types::Numbers;
 use state::types::Run;
-use steprules::types;
-use steprules::types::Left;
-use steprules::types::Stepped;
+use step_effects::counts;
+use step_effects::dispatch;
+pub use step_fault::inner_fault;
+use step_rules::types;
+use step_rules::types::Left;
+use step_rules::types::Stepped;
 ghost use mathlib.Core.Path.{_≡_};
 ghost use lib.ListN.{length};
 ghost use Rattle.state.specs.Tables.{tablesOf, configFrom, runFrom};
-ghost use Rattle.steprules.specs.Step.{faultOutput, faultStepOf};
-ghost use Rattle.steprules.specs.Lent.{FaultLeaves};
+ghost use Rattle.step_rules.specs.Step.{faultOutput, faultStepOf};
+ghost use Rattle.step_rules.specs.LentSteps.{FaultLeaves};
 
 // The step of any state, any fault number and any output: 20, 21, then the fault. Columns and fault states are lent, as to
 // `lent_packet`.
@@ -37,7 +39,7 @@ pub fn lent_fault<'a>(
         (now (responses .entry)) (now (latching .entry)) (now (argcounts .entry)) (now (args .entry)))
         (runFrom arm counts (now (states .entry))) fault (now (out .entry)) r (now (states .exit)) (now (out .exit)) ⌝ }
 {
-    if !statecheck::lent_keeps(
+    if !state_check::lent_keeps(
         numbers,
         routeids,
         dests,
@@ -68,7 +70,7 @@ pub fn lent_fault<'a>(
         fault,
         out,
     );
-    let counted = counters::after_fault(counts, answer.answer);
+    let counted = counts::after_fault(counts, answer.answer);
     types::left_of(arm, counted, answer)
 }
 

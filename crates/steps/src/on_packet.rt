@@ -1,18 +1,20 @@
 // The packet step on any state. `inner_packet` is the step of a state that keeps its rules.
-pub use packetstep::inner_packet;
 use state::types::Arm;
 use state::types::Config;
 use state::types::Counts;
 use state::types::Numbers;
 use state::types::Run;
-use steprules::types;
-use steprules::types::Left;
-use steprules::types::Stepped;
+use step_effects::counts;
+use step_effects::dispatch;
+pub use step_packet::inner_packet;
+use step_rules::types;
+use step_rules::types::Left;
+use step_rules::types::Stepped;
 ghost use mathlib.Core.Path.{_≡_};
 ghost use lib.ListN.{length};
 ghost use Rattle.state.specs.Tables.{tablesOf, configFrom, runFrom};
-ghost use Rattle.steprules.specs.Step.{packetOutput, packetStepOf};
-ghost use Rattle.steprules.specs.Lent.{PacketLeaves};
+ghost use Rattle.step_rules.specs.Step.{packetOutput, packetStepOf};
+ghost use Rattle.step_rules.specs.LentSteps.{PacketLeaves};
 
 // The step of any state, any packet and any output: 20, 21, then the packet. Columns and fault states are lent, so nothing of the
 // configuration is copied; the fault states change where they stand.
@@ -37,7 +39,7 @@ pub fn lent_packet<'a>(
         (now (responses .entry)) (now (latching .entry)) (now (argcounts .entry)) (now (args .entry)))
         (runFrom arm counts (now (states .entry))) (now (packet .entry)) (now (out .entry)) r (now (states .exit)) (now (out .exit)) ⌝ }
 {
-    if !statecheck::lent_keeps(
+    if !state_check::lent_keeps(
         numbers,
         routeids,
         dests,
@@ -68,7 +70,7 @@ pub fn lent_packet<'a>(
     );
     let left = m.arm;
     let answer = m.answer;
-    let counted = counters::after_packet(counts, answer.answer, m.reset);
+    let counted = counts::after_packet(counts, answer.answer, m.reset);
     types::left_of(left, counted, answer)
 }
 

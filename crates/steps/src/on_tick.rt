@@ -4,13 +4,13 @@ use state::types::Config;
 use state::types::Counts;
 use state::types::Numbers;
 use state::types::Run;
-use steprules::types;
-use steprules::types::Left;
-use steprules::types::Stepped;
+use step_rules::types;
+use step_rules::types::Left;
+use step_rules::types::Stepped;
 ghost use mathlib.Core.Path.{_≡_};
 ghost use Rattle.state.specs.Tables.{configFrom, runFrom};
-ghost use Rattle.steprules.specs.Step.{tickStepOf};
-ghost use Rattle.steprules.specs.Makers.{stepLeft};
+ghost use Rattle.step_rules.specs.Step.{tickStepOf};
+ghost use Rattle.step_rules.specs.Makers.{stepLeft};
 
 // The step of any state: 20, then the tick, which moves the arm record alone. Columns and fault states are lent.
 pub fn lent_tick<'a>(
@@ -32,7 +32,7 @@ pub fn lent_tick<'a>(
         (now (responses .entry)) (now (latching .entry)) (now (argcounts .entry)) (now (args .entry)))
         (runFrom arm counts (now (states .entry))) ⌝ }
 {
-    if !statecheck::lent_keeps(
+    if !state_check::lent_keeps(
         numbers,
         routeids,
         dests,
@@ -47,7 +47,7 @@ pub fn lent_tick<'a>(
     ) {
         return types::kept(arm, counts, 20);
     }
-    let ticked = arming::tick_of(arm);
+    let ticked = step_arm::tick_of(arm);
     let left = ticked.arm;
     types::left_of(left, counts, types::bare(ticked.answer))
 }

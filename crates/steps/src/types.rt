@@ -1,3 +1,3 @@
-// What a step hands back, as `steprules` has it.
-pub use steprules::types::Answer;
-pub use steprules::types::Stepped;
+// What a step hands back, as `step_rules` has it.
+pub use step_rules::types::Answer;
+pub use step_rules::types::Stepped;

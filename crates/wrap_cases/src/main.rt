@@ -1,6 +1,6 @@
 // Steps configuration C of document 01 more than 65,536 times by one packet or fault, and prints how many of the answers were
 // the expected one, counted plainly, and beside it the seven counters.
-use image::types::Loaded;
+use image_load::types::Loaded;
 use state::types::Config;
 use state::types::Counts;
 use state::types::Run;
@@ -69,7 +69,7 @@ const PAD: [u8; 12] = [
 ];
 
 fn main() {
-    let loaded = image::load::load(&C);
+    let loaded = image_load::load::load(&C);
     again(b"PAD, answered 10: ", loaded, &PAD, 0, 10, 65535);
     again(b"PAD, answered 10: ", loaded, &PAD, 0, 10, 65536);
     again(b"PAD, answered 10: ", loaded, &PAD, 0, 10, 65540);

@@ -1,6 +1,6 @@
 -- `tz_arguments`: the part's length, and its place by the refusal.
 use mathlib.Core.Path.{_≡_, sym, _∙_}
-use Rattle.boundary.specs.BoundaryLaws.{part-refused, part-accepted}
+use Rattle.export_rules.specs.BoundaryLaws.{part-refused, part-accepted}
 use Rattle.export.proofs.calls.tz_arguments.Statement.{statement}
 use Rattle.export.proofs.calls.tz_arguments.Tie as tie
 

@@ -1,6 +1,6 @@
 -- `tz_lent_fault`: an armed number that is neither 0 nor 1, or the step handed out.
 use borrow.Author.Needs.{needs}
-use Rattle.boundary.specs.BoundaryLaws.{fault-untold, fault-told}
+use Rattle.export_rules.specs.BoundaryLaws.{fault-untold, fault-told}
 use Rattle.export.proofs.calls.tz_lent_fault.Statement.{statement}
 use Rattle.export.proofs.calls.tz_lent_fault.Tie as tie
 

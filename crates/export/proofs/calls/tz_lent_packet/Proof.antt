@@ -1,6 +1,6 @@
 -- `tz_lent_packet`: an armed number that is neither 0 nor 1, or the step handed out.
 use borrow.Author.Needs.{needs}
-use Rattle.boundary.specs.BoundaryLaws.{packet-untold, packet-told}
+use Rattle.export_rules.specs.BoundaryLaws.{packet-untold, packet-told}
 use Rattle.export.proofs.calls.tz_lent_packet.Statement.{statement}
 use Rattle.export.proofs.calls.tz_lent_packet.Tie as tie
 

@@ -1,6 +1,6 @@
 -- `tz_lent_tick`: an armed number that is neither 0 nor 1, or the step handed out.
 use borrow.Author.Needs.{needs}
-use Rattle.boundary.specs.BoundaryLaws.{tick-untold, tick-told}
+use Rattle.export_rules.specs.BoundaryLaws.{tick-untold, tick-told}
 use Rattle.export.proofs.calls.tz_lent_tick.Statement.{statement}
 use Rattle.export.proofs.calls.tz_lent_tick.Tie as tie
 

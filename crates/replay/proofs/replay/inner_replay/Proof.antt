@@ -7,29 +7,29 @@ use native.Mathlib.Omega.{arith}
 use lib.ListN.{length, length-drop}
 use borrow.Author.Needs.{needs}
 use Rattle.wire.specs.Bytes.{part-bytes}
-use Rattle.records.specs.RecordLaws.{Whole, bodyAt}
+use Rattle.image_rules.specs.RecordLaws.{Whole, bodyAt}
 use Rattle.state.specs.declared.types.Config.{Config}
 use Rattle.state.specs.declared.types.Run.{Run}
 use Rattle.state.specs.declared.types.Arm.{Arm}
 use Rattle.state.specs.declared.types.Counts.{Counts}
 use Rattle.state.specs.Tables.{configFrom, runFrom}
 use Rattle.state.specs.Sized.{LentState}
-use Rattle.dispatch.specs.Dispatch.{stepRoom}
-use Rattle.arming.specs.declared.Ticked.{Ticked}
-use Rattle.arming.specs.Arming.{tickedBy}
-use Rattle.steprules.specs.declared.types.Answer.{Answer}
-use Rattle.steprules.specs.Makers.{bareAnswer, stepFrom}
-use Rattle.steprules.specs.Step.{tickStep}
-use Rattle.steprules.specs.Found.{lend}
-use Rattle.steprules.specs.MovedOn.{lend-states, lend-rows, fault-moved, fault-put}
+use Rattle.step_effects.specs.Dispatch.{stepRoom}
+use Rattle.step_arm.specs.declared.Ticked.{Ticked}
+use Rattle.step_arm.specs.Arming.{tickedBy}
+use Rattle.step_rules.specs.declared.types.Answer.{Answer}
+use Rattle.step_rules.specs.Makers.{bareAnswer, stepFrom}
+use Rattle.step_rules.specs.Step.{tickStep}
+use Rattle.step_rules.specs.Found.{lend}
+use Rattle.step_rules.specs.MovedOn.{lend-states, lend-rows, fault-moved, fault-put}
 use Rattle.history.specs.Plain.{packet, tick, fault}
-use Rattle.replayrules.specs.declared.types.Reached.{Reached}
-use Rattle.replayrules.specs.RecordingLaws.{is-packet, is-tick, long-tick, only, fault-sized, packet-event, tick-event, fault-event}
-use Rattle.replayrules.specs.Recording.{outputFull, kindRefusal, eventRoom, headSize}
-use Rattle.replayrules.specs.PathLaws.{packet-over, fault-over}
-use Rattle.replayrules.specs.OutputLaws.{partFrom, part-is}
-use Rattle.replayrules.specs.Walk.{Told, Going, start, same, ends, cuts, found, refuses, cramped, goes-on, goes-on-silent}
-use Rattle.replayrules.specs.Replay.{stoppedAt, pieceLeft, Replays, reachedAt}
+use Rattle.replay_rules.specs.declared.types.Reached.{Reached}
+use Rattle.replay_rules.specs.RecordingLaws.{is-packet, is-tick, long-tick, only, fault-sized, packet-event, tick-event, fault-event}
+use Rattle.replay_rules.specs.Recording.{outputFull, kindRefusal, eventRoom, headSize}
+use Rattle.replay_rules.specs.PathLaws.{packet-over, fault-over}
+use Rattle.replay_rules.specs.OutputLaws.{partFrom, part-is}
+use Rattle.replay_rules.specs.ReplayWalk.{Told, Going, start, same, ends, cuts, found, refuses, cramped, goes-on, goes-on-silent}
+use Rattle.replay_rules.specs.Replay.{stoppedAt, pieceLeft, Replays, reachedAt}
 use Rattle.replay.proofs.replay.inner_replay.Statement.{statement}
 use Rattle.replay.proofs.replay.inner_replay.Tie as tie
 

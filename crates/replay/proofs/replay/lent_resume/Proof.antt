@@ -8,7 +8,7 @@ use Rattle.state.specs.declared.types.Run.{Run}
 use Rattle.state.specs.Tables.{configFrom, runFrom}
 use Rattle.state.specs.Test.{keepsRules}
 use Rattle.state.specs.KeepsLaws as state
-use Rattle.replayrules.specs.ReplayLaws.{breaks, keeps}
+use Rattle.replay_rules.specs.ReplayLaws.{breaks, keeps}
 use Rattle.replay.proofs.replay.lent_resume.Statement.{statement}
 use Rattle.replay.proofs.replay.lent_resume.Tie as tie
 

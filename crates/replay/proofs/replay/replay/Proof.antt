@@ -2,9 +2,9 @@
 use mathlib.Core.Path.{sym, ap, _∙_}
 use borrow.Author.Needs.{needs}
 use Rattle.state.specs.Sized.{LentState}
-use Rattle.image.specs.declared.types.Loaded.{Loaded}
-use Rattle.image.specs.Theorems.{loaded-lent}
-use Rattle.replayrules.specs.ReplayLaws.{refused, loaded}
+use Rattle.image_load.specs.declared.types.Loaded.{Loaded}
+use Rattle.image_load.specs.LoadTheorems.{loaded-lent}
+use Rattle.replay_rules.specs.ReplayLaws.{refused, loaded}
 use Rattle.replay.proofs.replay.replay.Statement.{statement}
 use Rattle.replay.proofs.replay.replay.Tie as tie
 

@@ -9,8 +9,8 @@ use Rattle.state.specs.Tables.{configFrom, runFrom}
 use Rattle.state.specs.Test.{keepsRules}
 use Rattle.state.specs.KeepsLaws.{keeps}
 use Rattle.state.specs.Sized.{LentSized}
-use Rattle.steprules.specs.MovedOn.{lend-rows}
-use Rattle.steprules.specs.Lent.{fault-breaks, fault-cramped, fault-leaves}
+use Rattle.step_rules.specs.MovedOn.{lend-rows}
+use Rattle.step_rules.specs.LentSteps.{fault-breaks, fault-cramped, fault-leaves}
 use Rattle.steps.proofs.on_fault.lent_fault.Statement.{statement}
 use Rattle.steps.proofs.on_fault.lent_fault.Tie as tie
 

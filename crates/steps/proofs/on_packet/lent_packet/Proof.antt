@@ -9,9 +9,9 @@ use Rattle.state.specs.Tables.{configFrom, runFrom}
 use Rattle.state.specs.Test.{keepsRules}
 use Rattle.state.specs.KeepsLaws.{keeps}
 use Rattle.state.specs.Sized.{LentSized}
-use Rattle.steprules.specs.Found.{lend}
-use Rattle.steprules.specs.MovedOn.{lend-states}
-use Rattle.steprules.specs.Lent.{packet-breaks, packet-cramped, packet-leaves}
+use Rattle.step_rules.specs.Found.{lend}
+use Rattle.step_rules.specs.MovedOn.{lend-states}
+use Rattle.step_rules.specs.LentSteps.{packet-breaks, packet-cramped, packet-leaves}
 use Rattle.steps.proofs.on_packet.lent_packet.Statement.{statement}
 use Rattle.steps.proofs.on_packet.lent_packet.Tie as tie
 

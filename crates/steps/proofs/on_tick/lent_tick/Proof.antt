@@ -7,7 +7,7 @@ use Rattle.state.specs.declared.types.Config.{Config}
 use Rattle.state.specs.declared.types.Run.{Run}
 use Rattle.state.specs.Tables.{configFrom, runFrom}
 use Rattle.state.specs.Test.{keepsRules}
-use Rattle.steprules.specs.Lent.{tick-breaks, tick-leaves}
+use Rattle.step_rules.specs.LentSteps.{tick-breaks, tick-leaves}
 use Rattle.steps.proofs.on_tick.lent_tick.Statement.{statement}
 use Rattle.steps.proofs.on_tick.lent_tick.Tie as tie
 

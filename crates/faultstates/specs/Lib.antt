@@ -1,3 +1,0 @@
-pub mod FaultStates
-pub mod FaultLaws
-pub mod ActLaws

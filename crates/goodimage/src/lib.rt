@@ -1,1 +1,0 @@
-// Theorems alone: the good images, and that loading takes exactly those record by record. They are in specs/.

@@ -1,6 +1,0 @@
--- `blank`: no numbers, and zero arrays.
-use Rattle.image.proofs.load.blank.Statement.{statement}
-use Rattle.image.proofs.load.blank.Tie as tie
-
-pub blank-spec : {M : Type 1} → statement M
-blank-spec = tie.close (tie.spec (λ c κs. tt) (λ c. rw (c .no-numbers .ensures)))

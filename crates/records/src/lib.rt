@@ -1,2 +1,0 @@
-// The records of a configuration image: where each ends.
-pub mod record;

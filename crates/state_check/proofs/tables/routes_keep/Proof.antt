@@ -1,0 +1,17 @@
+-- `routes_keep`: the routes taken apart into their columns.
+use native.Mathlib.Omega.{arith}
+use borrow.Author.Needs.{needs}
+use Rattle.state_check.specs.Apart.{routes-apart}
+use Rattle.state_check.proofs.tables.routes_keep.Statement.{statement}
+use Rattle.state_check.proofs.tables.routes_keep.Tie as tie
+
+pub routes-keep-spec : {M : Type 1} → statement M
+routes-keep-spec =
+    tie.close
+    (tie.spec
+    (λ c κs. search needs)
+    (λ c κs. search needs)
+    (λ c κs. search needs)
+    (λ c κs. tt)
+    (λ c κs. tt)
+    (λ c. let a = c .before .before .before .before .before .before .before .args in cc (routes-apart (a .base) (a .ids .now) (a .dests .now) (a .n) (omega arith))))

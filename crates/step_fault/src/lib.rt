@@ -1,0 +1,65 @@
+// The fault step of a state that keeps its rules.
+use state::types::Numbers;
+use step_effects::dispatch;
+use step_effects::faults;
+use step_rules::types;
+use step_rules::types::Answer;
+ghost use mathlib.Core.Path.{_≡_};
+ghost use mathlib.Core.List.{List};
+ghost use Prim.Native.Nat.{ℕ, _+_, _*_, _≤_, _<_};
+ghost use lib.ListN.{length, take, drop};
+ghost use Rattle.step_effects.specs.Dispatch.{stepRoom, Wrote};
+ghost use Rattle.state.specs.Tables.{configFrom};
+ghost use Rattle.step_rules.specs.Moved.{RowsLent, FaultMoves};
+
+// Writes the command of row k, whose `count` argument bytes stand from place 16 k on.
+fn respond(out: &mut [u8], source: u16, id: u16, args: &[u8], k: usize, count: u8) -> u16
+    requires { ⌜ (stepRoom ≤ length (now out)) × (k < 32) × (k * 16 + count ≤ length (now args)) ⌝ }
+    ensures { λ r. ⌜ Wrote source id (take count (drop (k * 16) (now (args .entry)))) (now (out .entry)) r (now (out .exit)) ⌝ }
+{
+    let from = k * 16;
+    let end = from + count as usize;
+    dispatch::write(out, source, id, &args[from..end])
+}
+
+// The step, with room: the response goes straight to the router, even for a protected id; it is routed, so its place is not
+// asked about. The columns are lent, and so are the
+// fault states; arm record and counters are for the caller. What it does is said of every configuration with these columns.
+// internal: for the steps that judge their state, and for a loop that judges its state once.
+pub fn inner_fault<'a>(
+    numbers: Numbers,
+    routeids: &'a [u16; 128],
+    dests: &'a [u8; 128],
+    faultids: &'a [u16; 32],
+    responses: &'a [u16; 32],
+    latching: &'a [u8; 32],
+    argcounts: &'a [u8; 32],
+    args: &'a [u8; 512],
+    states: &mut [u8; 32],
+    fault: u16,
+    out: &mut [u8],
+) -> Answer
+    requires { ⌜ RowsLent numbers (now routeids) (now dests) (now faultids) (now responses) (now latching) (now argcounts) (now args)
+        × (length (now states) ≡ 32) × (stepRoom ≤ length (now out)) ⌝ }
+    ensures { λ r. ⌜ ((protected : List ℕ)
+        → FaultMoves
+        (configFrom numbers (now (routeids .entry)) (now (dests .entry)) protected (now (faultids .entry))
+        (now (responses .entry)) (now (latching .entry)) (now (argcounts .entry)) (now (args .entry)))
+        (now (states .entry)) fault (now (out .entry)) r (now (states .exit)) (now (out .exit))) ⌝ }
+{
+    let k = state_lookup::place(faultids, numbers.nrows, state_lookup::ROWS, fault);
+    if k >= numbers.nrows {
+        return types::bare(34);
+    }
+    let s = states[k];
+    if s != faults::ENABLED {
+        return types::bare(13);
+    }
+    let id = responses[k];
+    let at = state_lookup::place(routeids, numbers.nroutes, state_lookup::ROUTES, id);
+    let count = argcounts[k];
+    let latches = latching[k];
+    let written = respond(out, numbers.fault, id, args, k, count);
+    states[k] = faults::row_after(latches, s, faults::FAULT);
+    types::dispatched(id, dests[at], written)
+}

@@ -1,6 +1,0 @@
--- `all`: three times `both`.
-use Rattle.valuecheck.proofs.all.Statement.{statement}
-use Rattle.valuecheck.proofs.all.Tie as tie
-
-pub all-spec : {M : Type 1} → statement M
-all-spec = tie.close (tie.spec (λ c κs. tt) (λ c κs. tt) (λ c κs. tt) (λ c. cc))
