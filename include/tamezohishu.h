@@ -24,9 +24,10 @@ extern "C" {
 /*
  * One number that moves with every change of a struct, a signature or the meaning of a number here; compare at the start. A
  * program that was compiled with another header than its archive's reads and writes the wrong places, or takes one number for
- * another, and nothing else would tell. 2: tz_resume and tz_replay stop with numbers of their own (60 to 63).
+ * another, and nothing else would tell. 3: the settings of a configuration, and what a run has beside its fault states, are
+ * structs of their own (tz_settings, tz_standing), which the lent steps take by value.
  */
-#define TZ_ABI 2
+#define TZ_ABI 3
 
 /* The number of the archive. */
 uint32_t tz_abi(void);
@@ -43,7 +44,7 @@ enum {
     TZ_LOADED = 0,
     TZ_PAST_END = 1,        /* header or body passes the end of the image */
     TZ_BAD_KIND = 2,        /* kind not 1 to 4 */
-    TZ_BAD_LENGTH = 3,      /* body length wrong for the kind, or more than 16 arguments */
+    TZ_BAD_LENGTH = 3,      /* body length wrong for the kind, or n above 16 */
     TZ_BAD_ORDER = 4,       /* first record not kind 1, a second kind 1, a kind that falls, an id not above the one before */
     TZ_EMPTY = 5,           /* empty image */
     TZ_TOO_MANY = 6,        /* one row more than the limit */
@@ -112,17 +113,22 @@ enum {
  */
 enum {
     TZ_STACK_ALONE = 64,    /* tz_abi 8, tz_judge 8, tz_arguments 8, tz_build 40 */
-    TZ_STACK_STEP = 1024,   /* tz_lent_packet 528, tz_lent_tick 448, tz_lent_fault 496, tz_lent_resume 800: so the steps too */
-    TZ_STACK_LOAD = 8192    /* tz_load 5,040, tz_replay 6,352: they build the tables there */
+    TZ_STACK_STEP = 1024,   /* tz_lent_packet 544, tz_lent_tick 448, tz_lent_fault 496, tz_lent_resume 832: so the steps too */
+    TZ_STACK_LOAD = 8192    /* tz_load 2,688, tz_replay 4,000: they build the tables there */
 };
 
 /* ---- the state ---- */
 
-/* The numbers of a configuration. */
-typedef struct tz_numbers {
+/* What the records set of which an image has at most one: today kind 1, basics. */
+typedef struct tz_settings {
     uint16_t ground;    /* source number of the ground */
     uint16_t fault;     /* source number of fault responses */
     uint16_t base;      /* own ids are base to base + 7 */
+} tz_settings;
+
+/* The numbers of a configuration: its settings, and how many rows of each table are in use. */
+typedef struct tz_numbers {
+    tz_settings settings;
     size_t nroutes;     /* routes in use */
     size_t nprotected;  /* protected ids in use */
     size_t nrows;       /* fault rows in use */
@@ -152,16 +158,21 @@ typedef struct tz_counts {
     uint16_t f;     /* faults */
 } tz_counts;
 
+/* What a run has beside its fault states: the arm record and the counters. */
+typedef struct tz_standing {
+    uint8_t armed;              /* 0 or 1 */
+    uint16_t ticks;             /* ticks that remain, 0 where the timeout is 0 */
+    tz_counts counts;
+} tz_standing;
+
 /*
- * The run: what steps change. `armed` is 0 or 1. Any other number breaks the state's rules: such a call answers 20 and
+ * The run: what steps change. `standing.armed` is 0 or 1. Any other number breaks the state's rules: such a call answers 20 and
  * leaves the run as it was. A run from elsewhere is judged by each step in the same way: 20 where a rule breaks, and nowhere
  * else. So 20 is no test for damage: a run whose `armed` was flipped to 1 while no ticks remain, whose counters are others, or
  * that belongs to another configuration and happens to fit, keeps the rules.
  */
 typedef struct tz_run {
-    uint8_t armed;
-    uint16_t ticks;             /* ticks that remain, 0 where the timeout is 0 */
-    tz_counts counts;
+    tz_standing standing;
     uint8_t states[TZ_ROWS];    /* 0 disabled, 1 enabled, 2 latched */
 } tz_run;
 
@@ -268,17 +279,13 @@ tz_replayed tz_replay(const uint8_t *image, size_t image_length, const uint8_t *
 
 /* What a step leaves beside the fault states. */
 typedef struct tz_left {
-    uint8_t armed;
-    uint16_t ticks;
-    tz_counts counts;
+    tz_standing standing;
     tz_answer answer;
 } tz_left;
 
 /* What a piece of a recording leaves beside the fault states, and what it came to: as in tz_piece. */
 typedef struct tz_reached {
-    uint8_t armed;
-    uint16_t ticks;
-    tz_counts counts;
+    tz_standing standing;
     uint8_t stop;
     size_t read;
     size_t count;
@@ -288,30 +295,28 @@ typedef struct tz_reached {
 tz_left tz_lent_packet(tz_numbers numbers, const uint16_t routeids[TZ_ROUTES], const uint8_t dests[TZ_ROUTES],
     const uint16_t protected_ids[TZ_PROTECTED_IDS], const uint16_t faultids[TZ_ROWS], const uint16_t responses[TZ_ROWS],
     const uint8_t latching[TZ_ROWS], const uint8_t argcounts[TZ_ROWS], const uint8_t args[TZ_ROWS * TZ_ROW_ARGS],
-    uint8_t armed, uint16_t ticks, tz_counts counts, uint8_t states[TZ_ROWS],
+    tz_standing standing, uint8_t states[TZ_ROWS],
     const uint8_t *packet, size_t length, uint8_t *out, size_t room);
 tz_left tz_lent_tick(tz_numbers numbers, const uint16_t routeids[TZ_ROUTES], const uint8_t dests[TZ_ROUTES],
     const uint16_t protected_ids[TZ_PROTECTED_IDS], const uint16_t faultids[TZ_ROWS], const uint16_t responses[TZ_ROWS],
     const uint8_t latching[TZ_ROWS], const uint8_t argcounts[TZ_ROWS], const uint8_t args[TZ_ROWS * TZ_ROW_ARGS],
-    uint8_t armed, uint16_t ticks, tz_counts counts, const uint8_t states[TZ_ROWS]);
+    tz_standing standing, const uint8_t states[TZ_ROWS]);
 tz_left tz_lent_fault(tz_numbers numbers, const uint16_t routeids[TZ_ROUTES], const uint8_t dests[TZ_ROUTES],
     const uint16_t protected_ids[TZ_PROTECTED_IDS], const uint16_t faultids[TZ_ROWS], const uint16_t responses[TZ_ROWS],
     const uint8_t latching[TZ_ROWS], const uint8_t argcounts[TZ_ROWS], const uint8_t args[TZ_ROWS * TZ_ROW_ARGS],
-    uint8_t armed, uint16_t ticks, tz_counts counts, uint8_t states[TZ_ROWS],
+    tz_standing standing, uint8_t states[TZ_ROWS],
     uint16_t fault, uint8_t *out, size_t room);
 tz_reached tz_lent_resume(tz_numbers numbers, const uint16_t routeids[TZ_ROUTES], const uint8_t dests[TZ_ROUTES],
     const uint16_t protected_ids[TZ_PROTECTED_IDS], const uint16_t faultids[TZ_ROWS], const uint16_t responses[TZ_ROWS],
     const uint8_t latching[TZ_ROWS], const uint8_t argcounts[TZ_ROWS], const uint8_t args[TZ_ROWS * TZ_ROW_ARGS],
-    uint8_t armed, uint16_t ticks, tz_counts counts, uint8_t states[TZ_ROWS],
+    tz_standing standing, uint8_t states[TZ_ROWS],
     const uint8_t *recording, size_t length, uint8_t *out, size_t room);
 
 /* ---- the steps ---- */
 
 /* The run as a step left it; the fault states stand there already. */
 static inline tz_answer tz_take_left(tz_run *run, tz_left left) {
-    run->armed = left.armed;
-    run->ticks = left.ticks;
-    run->counts = left.counts;
+    run->standing = left.standing;
     return left.answer;
 }
 
@@ -325,20 +330,20 @@ static inline tz_answer tz_take_left(tz_run *run, tz_left left) {
 static inline tz_answer tz_step_packet(const tz_config *config, tz_run *run, const uint8_t *packet, size_t length, uint8_t *out,
     size_t room) {
     return tz_take_left(run, tz_lent_packet(config->numbers, config->routeids, config->dests, config->protected_ids,
-        config->faultids, config->responses, config->latching, config->argcounts, config->args, run->armed, run->ticks,
-        run->counts, run->states, packet, length, out, room));
+        config->faultids, config->responses, config->latching, config->argcounts, config->args, run->standing,
+        run->states, packet, length, out, room));
 }
 
 static inline tz_answer tz_step_tick(const tz_config *config, tz_run *run) {
     return tz_take_left(run, tz_lent_tick(config->numbers, config->routeids, config->dests, config->protected_ids,
-        config->faultids, config->responses, config->latching, config->argcounts, config->args, run->armed, run->ticks,
-        run->counts, run->states));
+        config->faultids, config->responses, config->latching, config->argcounts, config->args, run->standing,
+        run->states));
 }
 
 static inline tz_answer tz_step_fault(const tz_config *config, tz_run *run, uint16_t fault, uint8_t *out, size_t room) {
     return tz_take_left(run, tz_lent_fault(config->numbers, config->routeids, config->dests, config->protected_ids,
-        config->faultids, config->responses, config->latching, config->argcounts, config->args, run->armed, run->ticks,
-        run->counts, run->states, fault, out, room));
+        config->faultids, config->responses, config->latching, config->argcounts, config->args, run->standing,
+        run->states, fault, out, room));
 }
 
 /*
@@ -352,12 +357,10 @@ static inline tz_answer tz_step_fault(const tz_config *config, tz_run *run, uint
 static inline tz_piece tz_resume(const tz_config *config, tz_run *run, const uint8_t *recording, size_t length, uint8_t *out,
     size_t room) {
     tz_reached reached = tz_lent_resume(config->numbers, config->routeids, config->dests, config->protected_ids,
-        config->faultids, config->responses, config->latching, config->argcounts, config->args, run->armed, run->ticks,
-        run->counts, run->states, recording, length, out, room);
+        config->faultids, config->responses, config->latching, config->argcounts, config->args, run->standing,
+        run->states, recording, length, out, room);
     tz_piece piece;
-    run->armed = reached.armed;
-    run->ticks = reached.ticks;
-    run->counts = reached.counts;
+    run->standing = reached.standing;
     piece.stop = reached.stop;
     piece.read = reached.read;
     piece.count = reached.count;

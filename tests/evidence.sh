@@ -1,16 +1,20 @@
-# The map of evidence can't rot: every crate, file, function, definition, theorem and must-fail edit that docs/EVIDENCE.md names
-# exists; the row of an edit names what the edit changes, and the row of a theorem a definition that the theorem's file has; and
-# every public function, every must-fail edit and every number of document 01's two tables, of the builder and of a replay's
-# stops stands in it. So does each point that the independent reading settled, in docs/DECISIONS.md.
+# The map of evidence can't rot: every crate, file, function, definition, theorem and must-fail edit that docs/EVIDENCE.md and its
+# pages name exists; the row of a theorem names a definition that the theorem's file has, and what a must-fail edit changes is
+# named on a page; every public function, every must-fail edit and every number of document 01's two tables, of the builder and of
+# a replay's stops stands there; each page is in the index, and short. So does each point that the independent reading settled, in
+# docs/DECISIONS.md.
 set -eu
 cd "$(dirname "$0")/.."
-map=docs/EVIDENCE.md
+pages="docs/EVIDENCE.md $(echo docs/evidence/*.md)"
 room=$(mktemp -d)
 trap 'rm -rf "$room"' EXIT
 failed=0
 bad() { echo "evidence: $1" >&2; failed=1; }
 
 # the words in backticks, code blocks and equations aside
+map=$room/map
+# shellcheck disable=SC2086
+cat $pages >"$map"
 grep -o '`[^`]*`' "$map" | tr -d '`' | sort -u >"$room/words"
 
 # every word of the sources: names of Rattle, and names of antt with their dashes
@@ -36,11 +40,18 @@ while IFS= read -r word; do
     esac
 done <"$room/words"
 
-for edit in crates/*/must-fail/*.edit; do
-    crate=${edit#crates/} label=${edit##*/}
-    word=${crate%%/*}/${label%.edit}
-    grep -qxF -e "$word" "$room/words" || bad "the must-fail edit $word is not in the map"
+# every must-fail edit stands in the appendix, and a page names what it changes
+bin/edits --check >"$room/edits" || failed=1
+sed 's/^/evidence: /' "$room/edits"
+
+# a page opens on a screen or two: it is in the index, and has no long lines
+for page in docs/evidence/*.md docs/evidence/edits/*.md; do
+    grep -qF "](${page#docs/})" docs/EVIDENCE.md || bad "$page is not in the index"
+    [ "$(wc -l <"$page")" -le 120 ] || bad "$page has more than 120 lines"
 done
+# shellcheck disable=SC2086
+awk 'length > 300 { print FILENAME ", line " FNR " has " length " characters" }' $pages docs/evidence/edits/*.md >"$room/long"
+while IFS= read -r line; do bad "$line"; done <"$room/long"
 
 # public functions of the libraries: programs have none
 for source in crates/*/src/*.rt; do
@@ -56,7 +67,7 @@ for n in 10 11 12 13 14 15 20 21 22 23 24 25 26 27 28 29 30 31 32 33 34 40 41 42
     grep -qE "^\\|.*(^|[^0-9])$n([^0-9]|\$)" "$map" || bad "answer $n is not in the map"
 done
 
-# each edit stands beside what it changes, and each theorem over a definition of its row
+# each theorem stands over a definition of its row
 python3 tests/evidence_rows.py >"$room/rows" || failed=1
 sed 's/^/evidence: /' "$room/rows"
 

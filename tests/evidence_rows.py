@@ -1,15 +1,14 @@
-"""Whether the rows of docs/EVIDENCE.md hold together; tests/evidence.sh runs it.
+"""Whether the rows of the pages of evidence hold together; tests/evidence.sh runs it.
 
-A must-fail edit changes the function or the definition in which its `old:` lines stand: its row, or its paragraph, names that
-one. A theorem of a row stands in a file that defines or imports a definition that the row names. Prints what does not hold, and
-fails where something does not.
+A theorem of a row stands in a file that defines or imports a definition that the row names. A row that begins with an empty cell
+goes on with the row above it. Prints what does not hold, and fails where something does not.
 """
-import glob, os, re, sys
+import glob, re, sys
 
 NAME = r"[^\s(){};,.`]+"
-CODE = re.compile(r'(?:pub(?:\(crate\))? )?(?:extern "C" )?(?:fn|const|struct|enum) (\w+)')
 HEAD = re.compile(rf" *(?:abbrev |unfoldable )?(?:pub )?(?:(?:data|record) ({NAME})|({NAME})(?= :))")
 SPECS = sorted(glob.glob("crates/*/specs/*.antt"))
+PAGES = sorted(glob.glob("docs/evidence/*.md"))
 
 
 def read(path):
@@ -17,46 +16,24 @@ def read(path):
         return file.read()
 
 
-def holder(path, place):
-    """The function, or the outermost definition of its module, in which a place of a file stands; `None` at an import."""
-    depth, name = 99, None
-    for line in reversed(read(path)[:place].split("\n")):
-        here = len(line) - len(line.lstrip())
-        m = (HEAD if path.endswith(".antt") else CODE).match(line)
-        if line.startswith("use ") or (here < depth and line.lstrip().startswith("module ")):
-            break
-        if m and here < depth:
-            depth, name = here, m[1] or m[2] if path.endswith(".antt") else m[1]
-        if name and depth == 0:
-            break
-    return name
-
-
-def touched(edit):
-    """The functions and definitions that an edit changes."""
-    found = set()
-    for line in read(edit).split("\n"):
-        if line.startswith("file: "):
-            path = os.path.join(os.path.dirname(os.path.dirname(edit)), line[6:])
-        elif line.startswith("old: ") and line[5:] in read(path):
-            found.add(holder(path, read(path).find(line[5:]) + len(line[5:])))
-    return found - {None}
-
-
-def rows():
-    """Each row of a table, its cells by the words of the table's head, and each other line; with the crates of the heading."""
-    crates, head = [], None
-    for line in read("docs/EVIDENCE.md").split("\n"):
+def rows(page):
+    """Each row of a page's tables, its cells by the words of the table's head; with the crates of the title."""
+    crates, head, row = [], None, None
+    for line in read(page).split("\n") + [""]:
         cells = [cell.strip() for cell in line.strip().strip("|").split(" | ")]
-        if line.startswith("#"):
+        if line.startswith("# "):
             crates = re.findall(r"`(\w+)`", line)
+        if row and not (line.startswith("|") and head and not cells[0]):
+            yield crates, row
+            row = None
         if not line.startswith("|"):
             head = None
-            yield crates, {"": line}
         elif head is None:
             head = [cell.strip() for cell in line.strip("|").split("|")]
+        elif row:
+            row = {key: f"{row[key]} {cell}".strip() for key, cell in zip(head, cells)}
         elif not line.startswith("|---"):
-            yield crates, dict(zip(head, cells))
+            row = dict(zip(head, cells))
 
 
 def words(text):
@@ -83,25 +60,19 @@ def homes(text, crates):
 
 
 def main():
-    bad, edits, theorems = [], 0, 0
-    for crates, cells in rows():
-        title = next(iter(cells.values()))[:70]
-        said = words(" ".join(text for key, text in cells.items() if "edit" not in key))
-        for label in re.findall(r"`(\w+/\w+)`", " ".join(cells.values())):
-            edit = "crates/{}/must-fail/{}.edit".format(*label.split("/"))
-            if os.path.exists(edit):
-                edits += 1
-                if not touched(edit) & said:
-                    bad.append(f"{label} changes {' '.join(sorted(touched(edit)))}, which its row does not name: {title}")
-        named = words(cells.get("definition", ""))
-        for name, files in homes(cells.get("theorem", ""), crates):
-            theorems += 1
-            if not any(named & (defined[path] | imported[path]) for path in files):
-                bad.append(f"{name} stands in {' '.join(files)}, which has no definition that its row names: {title}")
+    bad, theorems = [], 0
+    for page in PAGES:
+        for crates, cells in rows(page):
+            title = next(iter(cells.values()))[:70]
+            named = words(cells.get("definition", ""))
+            for name, files in homes(cells.get("theorem", ""), crates):
+                theorems += 1
+                if not any(named & (defined[path] | imported[path]) for path in files):
+                    bad.append(f"{name} stands in {' '.join(files)}, which has no definition that its row names: {page}: {title}")
     for line in bad:
         print(line)
     if not bad:
-        print(f"{edits} times an edit beside what it changes, {theorems} times a theorem over a definition of its row")
+        print(f"{theorems} times a theorem over a definition of its row")
     sys.exit(bool(bad))
 
 

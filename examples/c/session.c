@@ -22,6 +22,6 @@ int main(void) {
     show(tz_step_packet(&l.config, &l.run, arm, sizeof arm, out, sizeof out));
     show(tz_step_packet(&l.config, &l.run, g, sizeof g, out, sizeof out));
     show(tz_step_fault(&l.config, &l.run, 7, out, sizeof out));
-    printf("dispatched %u, source %u\n", l.run.counts.d, out[0] * 256u + out[1]);
+    printf("dispatched %u, source %u\n", l.run.standing.counts.d, out[0] * 256u + out[1]);
     return 0;
 }

@@ -56,7 +56,8 @@ static int is_bare(tz_answer a, uint8_t n) {
 }
 
 static int same_run(const tz_run *a, const tz_run *b) {
-    return a->armed == b->armed && a->ticks == b->ticks && memcmp(&a->counts, &b->counts, sizeof a->counts) == 0
+    return a->standing.armed == b->standing.armed && a->standing.ticks == b->standing.ticks
+        && memcmp(&a->standing.counts, &b->standing.counts, sizeof a->standing.counts) == 0
         && memcmp(a->states, b->states, sizeof a->states) == 0;
 }
 
@@ -134,9 +135,10 @@ int main(void) {
     check("the archive's number is the header's", tz_abi() == TZ_ABI && tz_same_abi() == 1);
     tz_loaded l = tz_load(c, sizeof c);
     const tz_numbers *n = &l.config.numbers;
-    check("configuration C loads", l.answer == TZ_LOADED && l.offset == 0 && n->ground == 1 && n->fault == 2 && n->base == 100
+    const tz_settings *s = &n->settings;
+    check("configuration C loads", l.answer == TZ_LOADED && l.offset == 0 && s->ground == 1 && s->fault == 2 && s->base == 100
         && n->nroutes == 2 && n->nprotected == 1 && n->nrows == 1 && l.config.dests[1] == 2 && l.config.protected_ids[0] == 20
-        && l.config.args[0] == 0xAA && l.run.armed == 0 && l.run.states[0] == 1);
+        && l.config.args[0] == 0xAA && l.run.standing.armed == 0 && l.run.states[0] == 1);
     tz_config loaded;
     memcpy(&loaded, &l.config, sizeof loaded);
 
@@ -167,9 +169,9 @@ int main(void) {
     check("the session's answers", all);
     check("the commands of PAD and fault 7", sent);
     check("bytes behind the written part stay", untouched);
-    check("the counters", run.counts.a == 6 && run.counts.r == 0 && run.counts.d == 3 && run.counts.p == 2
-        && run.counts.u == 0 && run.counts.i == 0 && run.counts.f == 3);
-    check("the fault row is latched, the path unarmed", run.states[0] == 2 && run.armed == 0 && run.ticks == 0);
+    const tz_counts left = run.standing.counts;
+    check("the counters", left.a == 6 && left.r == 0 && left.d == 3 && left.p == 2 && left.u == 0 && left.i == 0 && left.f == 3);
+    check("the fault row is latched, the path unarmed", run.states[0] == 2 && run.standing.armed == 0 && run.standing.ticks == 0);
     tz_run again = run;
     check("a tick behind it", is_bare(tz_step_tick(&l.config, &again), TZ_TICK) && same_run(&again, &run));
 
@@ -178,7 +180,7 @@ int main(void) {
     memset(replies, 0x5A, sizeof replies);
     tz_replayed r = tz_replay(c, sizeof c, recording, end, replies, sizeof replies);
     int told = r.load == 0 && r.offset == 0 && r.stop == 0 && r.read == end && r.count == 12
-        && memcmp(&r.counts, &run.counts, sizeof run.counts) == 0;
+        && memcmp(&r.counts, &left, sizeof left) == 0;
     size_t at = 0;
     for (size_t k = 0; k < 12; k++) {
         tz_answer a = {replies[at], (uint16_t)(replies[at + 1] + 256 * replies[at + 2]), replies[at + 3],
@@ -192,7 +194,8 @@ int main(void) {
     again = l.run;
     tz_piece first = tz_resume(&l.config, &again, recording, 40, replies, sizeof replies);
     check("a first piece, cut in its fourth record", first.stop == TZ_STOP_CUT && first.read == 33 && first.count == 3
-        && first.wrote == 3 * HEAD && again.armed == 1 && again.ticks == 1 && again.counts.a == 2 && again.counts.p == 1);
+        && first.wrote == 3 * HEAD && again.standing.armed == 1 && again.standing.ticks == 1
+        && again.standing.counts.a == 2 && again.standing.counts.p == 1);
     tz_piece second = tz_resume(&l.config, &again, recording + first.read, end - first.read, replies, sizeof replies);
     check("the recording in two pieces", first.count + second.count == 12 && first.wrote + second.wrote == r.wrote
         && second.stop == 0 && second.read == end - first.read && same_run(&again, &run));
@@ -231,7 +234,7 @@ int main(void) {
     int kept = 1;
     for (unsigned armed = 2; armed < 256; armed++) {
         tz_run bad = l.run;
-        bad.armed = (uint8_t)armed;
+        bad.standing.armed = (uint8_t)armed;
         kept &= all_refuse(&l.config, &bad, recording, end);
     }
     check("an armed byte that is no bool", kept);

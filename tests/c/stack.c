@@ -261,8 +261,8 @@ static void events(void) {
     static uint8_t seen[256];
     for (int armed = 0; armed < 3; armed++) {
         run = state.run;
-        run.armed = armed > 0;
-        run.ticks = armed == 2;
+        run.standing.armed = armed > 0;
+        run.standing.ticks = armed == 2;
         tz_run start = run;
         for (size_t k = 0; k <= packet_count; k++) {
             bytes = k < packet_count ? packets[k] : longest;
@@ -308,7 +308,7 @@ static void refusals(void) {
     room = TZ_ROOM - 1;
     refused_state(TZ_NO_ROOM);
     room = TZ_ROOM;
-    run.armed = 2;
+    run.standing.armed = 2;
     refused_state(TZ_BAD_STATE);
     run = state.run;
     run.states[31] = 3;

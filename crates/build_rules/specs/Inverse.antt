@@ -15,7 +15,7 @@ use Rattle.packet_header.specs.Header.{headerOf, header-whole}
 use Rattle.packet_rules.specs.Layout.{byte, apid, seqCount, lengthField, pads, commandId, argCount, argumentPart, padPart}
 use Rattle.packet_rules.specs.Judge.{judgeOf, argumentsOf}
 use Rattle.packet_rules.specs.JudgeOutcome.{Accepts}
-use Rattle.packet_rules.specs.JudgeLaws.{accepted, accepts, judge-accepted, arguments-accepted}
+use Rattle.packet_rules.specs.JudgeLaws.{none-refuses, accepts, judge-accepted, arguments-accepted}
 use Rattle.packet_rules.specs.PacketParts.{pad-count}
 use Rattle.packet_rules.specs.HeaderBytes.{headerBytes, HeaderFits, HeaderIs, header-read, header-bytes, header-written, first-ten}
 use Rattle.build_rules.specs.Build.{Fields, given, lengthFieldFor, front, back, packetOf}
@@ -67,7 +67,7 @@ module _ (f : Fields) (fits : Fits f) where
 
   -- the judge accepts it with the same id and as many arguments, the enquiry gives the same arguments
   pub built-judged : judgeOf (packetOf f) ≡ record { answer = 0; id = f .id; count = length (f .args) }
-  built-judged = sym (judge-accepted (packetOf f) (f .id) (length (f .args)) (accepted built-accepted, sym id-is, sym count-is))
+  built-judged = sym (judge-accepted (packetOf f) (f .id) (length (f .args)) (none-refuses built-accepted, sym id-is, sym count-is))
 
   pub built-arguments : argumentsOf (packetOf f) ≡ f .args
   built-arguments =
@@ -102,7 +102,7 @@ pub built-reads : (f : Fields) → Fits f → InForm (packetOf f) × (fieldsOf (
 built-reads f fits =
     let left : lengthFieldFor f - 3 - length (f .args) ≡ f .pads = omega arith in (
       record {
-        accepted = accepted (built-accepted f fits);
+        accepted = none-refuses (built-accepted f fits);
         both-set = header-is f fits .both-set;
         high-bit = omega (arith, top-bit f fits);
         zero-pads = λ k. rw (count-is f fits, behind-ten f fits, drop-append-seam (f .args) (zeroBytes (f .pads))) (zero-at (f .pads) _);

@@ -7,9 +7,9 @@ use export_rules::types::Handed;
 use export_rules::types::Loading;
 use export_rules::types::Part;
 use export_rules::types::Portion;
+use export_rules::types::SavedStanding;
 use packet_judge::judge::Judged;
 use replay_rules::types::Replayed;
-use state::types::Counts;
 use state::types::Numbers;
 ghost use mathlib.Core.Path.{_≡_};
 ghost use lib.ListN.{length};
@@ -25,7 +25,7 @@ ghost use Rattle.export_rules.specs.Boundary.{abi, partOf, loadingOf, tickCall,
 pub extern "C" fn tz_abi() -> u32
     ensures { λ r. ⌜ r ≡ abi ⌝ }
 {
-    2
+    3
 }
 
 // The judge by itself.
@@ -98,9 +98,7 @@ pub extern "C" fn tz_lent_packet<'a>(
     latching: &'a [u8; 32],
     argcounts: &'a [u8; 32],
     args: &'a [u8; 512],
-    armed: u8,
-    ticks: u16,
-    counts: Counts,
+    standing: SavedStanding,
     states: &mut [u8; 32],
     packet: &[u8],
     out: &mut [u8],
@@ -108,10 +106,10 @@ pub extern "C" fn tz_lent_packet<'a>(
     ensures { λ r. ⌜ PacketCalls
         (configFrom numbers (now (routeids .entry)) (now (dests .entry)) (now (protected .entry)) (now (faultids .entry))
         (now (responses .entry)) (now (latching .entry)) (now (argcounts .entry)) (now (args .entry)))
-        (savedFrom armed ticks counts (now (states .entry))) (now (packet .entry)) (now (out .entry)) r (now (states .exit)) (now (out .exit)) ⌝ }
+        (savedFrom standing (now (states .entry))) (now (packet .entry)) (now (out .entry)) r (now (states .exit)) (now (out .exit)) ⌝ }
 {
-    if 1 < armed {
-        return types::step_refused(armed, ticks, counts);
+    if 1 < standing.armed {
+        return types::step_refused(standing);
     }
     types::step_out(steps::on_packet::lent_packet(
         numbers,
@@ -123,8 +121,7 @@ pub extern "C" fn tz_lent_packet<'a>(
         latching,
         argcounts,
         args,
-        types::arm_in(armed, ticks),
-        counts,
+        types::standing_in(standing),
         states,
         packet,
         out,
@@ -143,18 +140,16 @@ pub extern "C" fn tz_lent_tick<'a>(
     latching: &'a [u8; 32],
     argcounts: &'a [u8; 32],
     args: &'a [u8; 512],
-    armed: u8,
-    ticks: u16,
-    counts: Counts,
+    standing: SavedStanding,
     states: &'a [u8; 32],
 ) -> Handed
     ensures { λ r. ⌜ stepping r (now (states .entry))
         ≡ tickCall (configFrom numbers (now (routeids .entry)) (now (dests .entry)) (now (protected .entry)) (now (faultids .entry))
         (now (responses .entry)) (now (latching .entry)) (now (argcounts .entry)) (now (args .entry)))
-        (savedFrom armed ticks counts (now (states .entry))) ⌝ }
+        (savedFrom standing (now (states .entry))) ⌝ }
 {
-    if 1 < armed {
-        return types::step_refused(armed, ticks, counts);
+    if 1 < standing.armed {
+        return types::step_refused(standing);
     }
     types::step_out(steps::on_tick::lent_tick(
         numbers,
@@ -166,8 +161,7 @@ pub extern "C" fn tz_lent_tick<'a>(
         latching,
         argcounts,
         args,
-        types::arm_in(armed, ticks),
-        counts,
+        types::standing_in(standing),
         states,
     ))
 }
@@ -184,9 +178,7 @@ pub extern "C" fn tz_lent_fault<'a>(
     latching: &'a [u8; 32],
     argcounts: &'a [u8; 32],
     args: &'a [u8; 512],
-    armed: u8,
-    ticks: u16,
-    counts: Counts,
+    standing: SavedStanding,
     states: &mut [u8; 32],
     fault: u16,
     out: &mut [u8],
@@ -194,10 +186,10 @@ pub extern "C" fn tz_lent_fault<'a>(
     ensures { λ r. ⌜ FaultCalls
         (configFrom numbers (now (routeids .entry)) (now (dests .entry)) (now (protected .entry)) (now (faultids .entry))
         (now (responses .entry)) (now (latching .entry)) (now (argcounts .entry)) (now (args .entry)))
-        (savedFrom armed ticks counts (now (states .entry))) fault (now (out .entry)) r (now (states .exit)) (now (out .exit)) ⌝ }
+        (savedFrom standing (now (states .entry))) fault (now (out .entry)) r (now (states .exit)) (now (out .exit)) ⌝ }
 {
-    if 1 < armed {
-        return types::step_refused(armed, ticks, counts);
+    if 1 < standing.armed {
+        return types::step_refused(standing);
     }
     types::step_out(steps::on_fault::lent_fault(
         numbers,
@@ -209,8 +201,7 @@ pub extern "C" fn tz_lent_fault<'a>(
         latching,
         argcounts,
         args,
-        types::arm_in(armed, ticks),
-        counts,
+        types::standing_in(standing),
         states,
         fault,
         out,
@@ -229,9 +220,7 @@ pub extern "C" fn tz_lent_resume<'a>(
     latching: &'a [u8; 32],
     argcounts: &'a [u8; 32],
     args: &'a [u8; 512],
-    armed: u8,
-    ticks: u16,
-    counts: Counts,
+    standing: SavedStanding,
     states: &mut [u8; 32],
     recording: &[u8],
     out: &mut [u8],
@@ -239,10 +228,10 @@ pub extern "C" fn tz_lent_resume<'a>(
     ensures { λ r. ⌜ ResumeCalls
         (configFrom numbers (now (routeids .entry)) (now (dests .entry)) (now (protected .entry)) (now (faultids .entry))
         (now (responses .entry)) (now (latching .entry)) (now (argcounts .entry)) (now (args .entry)))
-        (savedFrom armed ticks counts (now (states .entry))) (now (recording .entry)) (now (out .entry)) r (now (states .exit)) (now (out .exit)) ⌝ }
+        (savedFrom standing (now (states .entry))) (now (recording .entry)) (now (out .entry)) r (now (states .exit)) (now (out .exit)) ⌝ }
 {
-    if 1 < armed {
-        return types::piece_refused(armed, ticks, counts);
+    if 1 < standing.armed {
+        return types::piece_refused(standing);
     }
     types::piece_out(replay::replay::lent_resume(
         numbers,
@@ -254,8 +243,7 @@ pub extern "C" fn tz_lent_resume<'a>(
         latching,
         argcounts,
         args,
-        types::arm_in(armed, ticks),
-        counts,
+        types::standing_in(standing),
         states,
         recording,
         out,

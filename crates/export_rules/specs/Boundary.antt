@@ -9,10 +9,9 @@ use lib.Dec.{eqb, leb}
 use lib.ListN.{length}
 use Rattle.packet_rules.specs.Judge.{argumentsOf, argumentsAt}
 use Rattle.state.specs.declared.types.Config.{Config}
-use Rattle.state.specs.declared.types.Arm.{Arm}
-use Rattle.state.specs.declared.types.Counts.{Counts}
+use Rattle.state.specs.declared.types.Standing.{Standing}
 use Rattle.state.specs.declared.types.Run.{Run}
-use Rattle.state.specs.Tables.{tablesOf, runFrom}
+use Rattle.state.specs.Tables.{tablesOf, standingFrom, runFrom}
 use Rattle.step_effects.specs.Dispatch.{over}
 use Rattle.step_rules.specs.declared.types.Answer.{Answer}
 use Rattle.step_rules.specs.declared.types.Left.{Left}
@@ -23,6 +22,7 @@ use Rattle.image_load.specs.Image.{loadOf}
 use Rattle.replay_rules.specs.declared.types.Piece.{Piece}
 use Rattle.replay_rules.specs.declared.types.Reached.{Reached}
 use Rattle.replay_rules.specs.Replay.{pieceOf, pieceBytes}
+use Rattle.export_rules.specs.declared.types.SavedStanding.{SavedStanding}
 use Rattle.export_rules.specs.declared.types.Saved.{Saved}
 use Rattle.export_rules.specs.declared.types.Part.{Part}
 use Rattle.export_rules.specs.declared.types.Loading.{Loading}
@@ -31,29 +31,32 @@ use Rattle.export_rules.specs.declared.types.Portion.{Portion}
 
 -- the number of the structs, signatures and numbers that C sees
 abbrev pub abi : ℕ
-abi = 2
+abi = 3
 
 -- ---- a run, saved and taken back
 
-abbrev pub armInward : ℕ → ℕ → Arm
-armInward armed ticks = record { armed = eqb armed 1; ticks = ticks }
+abbrev pub standingInward : SavedStanding → Standing
+standingInward s = standingFrom (record { armed = eqb (s .armed) 1; ticks = s .ticks }) (s .counts)
+
+-- a standing with a number in place of its bool
+abbrev pub numbered : ℕ → Standing → SavedStanding
+numbered armed s = record { armed = armed; ticks = s .arm .ticks; counts = s .counts }
+
+abbrev pub standingOutward : Standing → SavedStanding
+standingOutward s = numbered (cond (s .arm .armed) 1 0) s
 
 abbrev pub inward : Saved → Run
-inward s = runFrom (armInward (s .armed) (s .ticks)) (s .counts) (s .states)
+inward s = runFrom (standingInward (s .standing)) (s .states)
 
-abbrev pub savedFrom : ℕ → ℕ → Counts → List ℕ → Saved
-savedFrom armed ticks counts states = record { armed = armed; ticks = ticks; counts = counts; states = states }
-
--- the number of a bool
-abbrev pub armedOutward : Arm → ℕ
-armedOutward arm = cond (arm .armed) 1 0
+abbrev pub savedFrom : SavedStanding → List ℕ → Saved
+savedFrom standing states = record { standing = standing; states = states }
 
 abbrev pub outward : Run → Saved
-outward r = savedFrom (armedOutward (r .arm)) (r .arm .ticks) (r .counts) (r .states)
+outward r = savedFrom (standingOutward (r .standing)) (r .states)
 
 -- 0 or 1
 abbrev pub told : Saved → Bool
-told s = leb (s .armed) 1
+told s = leb (s .standing .armed) 1
 
 -- ---- what each call answers
 
@@ -106,18 +109,18 @@ resumeBytes c s recording room = cond (told s) (pieceBytes c (inward s) recordin
 
 -- ---- where the fault states are lent
 
-abbrev pub handedFrom : ℕ → ℕ → Counts → Answer → Handed
-handedFrom armed ticks counts answer = record { armed = armed; ticks = ticks; counts = counts; answer = answer }
+abbrev pub handedFrom : SavedStanding → Answer → Handed
+handedFrom standing answer = record { standing = standing; answer = answer }
 
 abbrev pub leftOutward : Left → Handed
-leftOutward l = handedFrom (armedOutward (l .arm)) (l .arm .ticks) (l .counts) (l .answer)
+leftOutward l = handedFrom (standingOutward (l .standing)) (l .answer)
 
-abbrev pub refusedLeft : ℕ → ℕ → Counts → Handed
-refusedLeft armed ticks counts = handedFrom armed ticks counts (bareAnswer 20)
+abbrev pub refusedLeft : SavedStanding → Handed
+refusedLeft standing = handedFrom standing (bareAnswer 20)
 
 -- what a step hands back and the fault states that it leaves
 abbrev pub stepping : Handed → List ℕ → Stepping
-stepping h states = record { run = savedFrom (h .armed) (h .ticks) (h .counts) states; answer = h .answer }
+stepping h states = record { run = savedFrom (h .standing) states; answer = h .answer }
 
 pub record PacketCalls (c : Config) (s : Saved) (p out : List ℕ) (h : Handed) (states left : List ℕ) : Type 0 where
   pub step : stepping h states ≡ packetCall c s p (length out)
@@ -127,19 +130,18 @@ pub record FaultCalls (c : Config) (s : Saved) (f : ℕ) (out : List ℕ) (h : H
   pub step : stepping h states ≡ faultCall c s f (length out)
   pub output : left ≡ faultOutput (tablesOf c) (h .answer .answer) f out
 
-abbrev pub portionFrom : ℕ → ℕ → Counts → ℕ → ℕ → ℕ → ℕ → Portion
-portionFrom armed ticks counts stop read count wrote =
-    record { armed = armed; ticks = ticks; counts = counts; stop = stop; read = read; count = count; wrote = wrote }
+abbrev pub portionFrom : SavedStanding → ℕ → ℕ → ℕ → ℕ → Portion
+portionFrom standing stop read count wrote = record { standing = standing; stop = stop; read = read; count = count; wrote = wrote }
 
 abbrev pub reachedOutward : Reached → Portion
-reachedOutward r = portionFrom (armedOutward (r .arm)) (r .arm .ticks) (r .counts) (r .stop) (r .read) (r .count) (r .wrote)
+reachedOutward r = portionFrom (standingOutward (r .standing)) (r .stop) (r .read) (r .count) (r .wrote)
 
-abbrev pub refusedReached : ℕ → ℕ → Counts → Portion
-refusedReached armed ticks counts = portionFrom armed ticks counts 20 0 0 0
+abbrev pub refusedReached : SavedStanding → Portion
+refusedReached standing = portionFrom standing 20 0 0 0
 
 abbrev pub resuming : Portion → List ℕ → Resuming
 resuming p states =
-    record { run = savedFrom (p .armed) (p .ticks) (p .counts) states; stop = p .stop; read = p .read; count = p .count; wrote = p .wrote }
+    record { run = savedFrom (p .standing) states; stop = p .stop; read = p .read; count = p .count; wrote = p .wrote }
 
 pub record ResumeCalls (c : Config) (s : Saved) (recording out : List ℕ) (p : Portion) (states left : List ℕ) : Type 0 where
   pub told : resuming p states ≡ resumeCall c s recording (length out)

@@ -1,6 +1,6 @@
 -- Laws of the C boundary: a bool as a number, the argument part, and each call for an armed number that is told and for one
 -- that is not.
-use mathlib.Core.Path.{_≡_, refl, sym, ap, _∙_}
+use mathlib.Core.Path.{_≡_, refl, ap}
 use mathlib.Core.Bool.{Bool, true, false, cond}
 use mathlib.Core.List.{List, []}
 use Prim.Native.Nat.{ℕ, _<_, _≤_}
@@ -9,13 +9,9 @@ use mir.Val.{boolByte}
 use borrow.Author.Tests.{eq-eqb, ne-eqb, le-leb, lt-leb}
 use Rattle.packet_rules.specs.Judge.{refusalOf, argumentsOf, argumentsAt}
 use Rattle.state.specs.declared.types.Config.{Config}
-use Rattle.state.specs.declared.types.Run.{Run}
-use Rattle.state.specs.declared.types.Arm.{Arm}
-use Rattle.state.specs.declared.types.Counts.{Counts}
-use Rattle.state.specs.Tables.{tablesOf, runFrom}
-use Rattle.step_effects.specs.Dispatch.{over}
+use Rattle.state.specs.Tables.{tablesOf}
 use Rattle.step_rules.specs.declared.types.Left.{Left}
-use Rattle.step_rules.specs.Step.{packetOutput, tickStepOf, faultOutput}
+use Rattle.step_rules.specs.Step.{tickStepOf}
 use Rattle.step_rules.specs.StepLaws.{packet-unsent}
 use Rattle.step_rules.specs.FaultStepLaws.{fault-unsent}
 use Rattle.step_rules.specs.Makers.{stepLeft}
@@ -23,7 +19,7 @@ use Rattle.step_rules.specs.LentSteps.{PacketLeaves, FaultLeaves}
 use Rattle.replay_rules.specs.declared.types.Reached.{Reached}
 use Rattle.replay_rules.specs.Replay.{Resumes}
 use Rattle.export_rules.specs.declared.types.Saved.{Saved}
-use Rattle.export_rules.specs.Boundary.{armInward, told, partOf, handed, packetCall, tickCall, faultCall, portion, resumeCall, resumeBytes, savedFrom, leftOutward, refusedLeft, stepping, PacketCalls, FaultCalls, reachedOutward, refusedReached, ResumeCalls}
+use Rattle.export_rules.specs.Boundary.{inward, told, partOf, handed, packetCall, tickCall, faultCall, portion, resumeCall, resumeBytes, leftOutward, refusedLeft, stepping, PacketCalls, FaultCalls, reachedOutward, refusedReached, ResumeCalls}
 
 pub byte-is : (b : Bool) → boolByte b ≡ cond b 1 0
 byte-is true = refl
@@ -42,51 +38,46 @@ module _ (p : List ℕ) where
 
 -- ---- calls
 
-module _ (c : Config) (armed ticks : ℕ) (counts : Counts) (states : List ℕ) where
-  abbrev s : Saved
-  s = savedFrom armed ticks counts states
+-- an armed number that is neither 0 nor 1
+untold : (s : Saved) → 1 < s .standing .armed → told s ≡ false
+untold s h = lt-leb (s .standing .armed) 1 h
 
-  -- neither 0 nor 1
-  module _ (h : 1 < armed) where
-    untold : told s ≡ false
-    untold = lt-leb armed 1 h
+-- or one that is
+is-told : (s : Saved) → s .standing .armed ≤ 1 → told s ≡ true
+is-told s h = le-leb (s .standing .armed) 1 h
 
-    pub packet-untold : (p out : List ℕ) → PacketCalls c s p out (refusedLeft armed ticks counts) states out
-    unfolding packetCall
-    packet-untold p out = record { step = simp untold; output = packet-unsent (tablesOf c) p out 20 20 refl refl }
+module _ {c : Config} {s : Saved} where
+  pub packet-untold : 1 < s .standing .armed → {p out : List ℕ} → PacketCalls c s p out (refusedLeft (s .standing)) (s .states) out
+  unfolding packetCall
+  packet-untold h {p} {out} = record { step = simp (untold s h); output = packet-unsent (tablesOf c) p out 20 20 refl refl }
 
-    pub tick-untold : stepping (refusedLeft armed ticks counts) states ≡ tickCall c s
-    unfolding tickCall
-    tick-untold = simp untold
+  pub fault-untold : 1 < s .standing .armed → {f : ℕ} {out : List ℕ} → FaultCalls c s f out (refusedLeft (s .standing)) (s .states) out
+  unfolding faultCall
+  fault-untold h {f} {out} = record { step = simp (untold s h); output = fault-unsent (tablesOf c) f out 20 20 refl refl }
 
-    pub fault-untold : (f : ℕ) (out : List ℕ) → FaultCalls c s f out (refusedLeft armed ticks counts) states out
-    unfolding faultCall
-    fault-untold f out = record { step = simp untold; output = fault-unsent (tablesOf c) f out 20 20 refl refl }
-
-    pub resume-untold : (recording out : List ℕ) → ResumeCalls c s recording out (refusedReached armed ticks counts) states out
-    unfolding resumeCall resumeBytes
-    resume-untold recording out = record { told = simp untold; output = simp untold }
+  pub resume-untold : 1 < s .standing .armed → {recording out : List ℕ} → ResumeCalls c s recording out (refusedReached (s .standing)) (s .states) out
+  unfolding resumeCall resumeBytes
+  resume-untold h = record { told = simp (untold s h); output = simp (untold s h) }
 
   -- 0 or 1: the path's own answer, handed out
-  module _ (h : armed ≤ 1) where
-    is-told : told s ≡ true
-    is-told = le-leb armed 1 h
-
-    abbrev run : Run
-    run = runFrom (armInward armed ticks) counts states
-
-    pub packet-told : (p out : List ℕ) (l : Left) (after left : List ℕ) → PacketLeaves c run p out l after left → PacketCalls c s p out (leftOutward l) after left
+  module _ (h : s .standing .armed ≤ 1) {after left : List ℕ} where
+    pub packet-told : {p out : List ℕ} {l : Left} → PacketLeaves c (inward s) p out l after left → PacketCalls c s p out (leftOutward l) after left
     unfolding packetCall
-    packet-told p out l after left e = record { step = simp is-told (ap handed (e .step)); output = e .output }
+    packet-told e = record { step = simp (is-told s h) (ap handed (e .step)); output = e .output }
 
-    pub tick-told : (l : Left) → stepLeft l states ≡ tickStepOf c run → stepping (leftOutward l) states ≡ tickCall c s
-    unfolding tickCall
-    tick-told l e = simp is-told (ap handed e)
-
-    pub fault-told : (f : ℕ) (out : List ℕ) (l : Left) (after left : List ℕ) → FaultLeaves c run f out l after left → FaultCalls c s f out (leftOutward l) after left
+    pub fault-told : {f : ℕ} {out : List ℕ} {l : Left} → FaultLeaves c (inward s) f out l after left → FaultCalls c s f out (leftOutward l) after left
     unfolding faultCall
-    fault-told f out l after left e = record { step = simp is-told (ap handed (e .step)); output = e .output }
+    fault-told e = record { step = simp (is-told s h) (ap handed (e .step)); output = e .output }
 
-    pub resume-told : (recording out : List ℕ) (r : Reached) (after left : List ℕ) → Resumes c run recording out r after left → ResumeCalls c s recording out (reachedOutward r) after left
+    pub resume-told : {recording out : List ℕ} {r : Reached} → Resumes c (inward s) recording out r after left → ResumeCalls c s recording out (reachedOutward r) after left
     unfolding resumeCall resumeBytes
-    resume-told recording out r after left e = record { told = simp is-told (ap portion (e .told)); output = simp is-told (e .output) }
+    resume-told e = record { told = simp (is-told s h) (ap portion (e .told)); output = simp (is-told s h) (e .output) }
+
+module _ (c : Config) (s : Saved) where
+  pub tick-untold : 1 < s .standing .armed → stepping (refusedLeft (s .standing)) (s .states) ≡ tickCall c s
+  unfolding tickCall
+  tick-untold h = simp (untold s h)
+
+  pub tick-told : s .standing .armed ≤ 1 → (l : Left) → stepLeft l (s .states) ≡ tickStepOf c (inward s) → stepping (leftOutward l) (s .states) ≡ tickCall c s
+  unfolding tickCall
+  tick-told h l e = simp (is-told s h) (ap handed e)

@@ -11,7 +11,7 @@ use borrow.Author.Tests.{leb-true, eqb-true, eqb-false}
 use Rattle.packet_rules.specs.Layout.{commandId}
 use Rattle.state.specs.declared.types.Config.{Config}
 use Rattle.state.specs.declared.types.Run.{Run}
-use Rattle.state.specs.Tables.{tablesOf, configFrom, runFrom}
+use Rattle.state.specs.Tables.{tablesOf, configFrom, withArm, runFrom}
 use Rattle.state.specs.Rules.{member}
 use Rattle.packet_rules.specs.Rejection.{isRejection}
 use Rattle.step_effects.specs.Counters.{rejectedCounts}
@@ -33,13 +33,13 @@ use Rattle.replay_rules.specs.ReplayTheorems.{piece-20}
 use Rattle.export_rules.specs.declared.types.Saved.{Saved}
 use Rattle.export_rules.specs.declared.types.Handed.{Handed}
 use Rattle.export_rules.specs.declared.types.Portion.{Portion}
-use Rattle.export_rules.specs.Boundary.{inward, outward, told, loadingOf, Stepping, handed, refusedCall, packetCall, tickCall, faultCall, Resuming, portion, idlePortion, resumeCall, resumeBytes, savedFrom, stepping, resuming, PacketCalls, FaultCalls, ResumeCalls}
+use Rattle.export_rules.specs.Boundary.{standingInward, numbered, inward, outward, told, loadingOf, Stepping, handed, refusedCall, packetCall, tickCall, faultCall, Resuming, portion, idlePortion, resumeCall, resumeBytes, savedFrom, stepping, resuming, PacketCalls, FaultCalls, ResumeCalls}
 
 -- ---- a run saved and taken back
 
 -- is the run that it was
 pub taken-back : (r : Run) → inward (outward r) ≡ r
-taken-back r = ap (λ (b : Bool). runFrom (record { armed = b; ticks = r .arm .ticks }) (r .counts) (r .states)) (go (r .arm .armed))
+taken-back r = ap (λ (b : Bool). runFrom (withArm (record { armed = b; ticks = r .standing .arm .ticks }) (r .standing)) (r .states)) (go (r .standing .arm .armed))
   where
     go : (b : Bool) → eqb (cond b 1 0) 1 ≡ b
     go true = refl
@@ -47,7 +47,7 @@ taken-back r = ap (λ (b : Bool). runFrom (record { armed = b; ticks = r .arm .t
 
 -- the number in place of its bool is 0 or 1
 pub saved-told : (r : Run) → told (outward r) ≡ true
-saved-told r = go (r .arm .armed)
+saved-told r = go (r .standing .arm .armed)
   where
     go : (b : Bool) → leb (cond b 1 0) 1 ≡ true
     go true = refl
@@ -55,11 +55,11 @@ saved-told r = go (r .arm .armed)
 
 -- taken back and saved again, a run with such a number is what it was
 pub saved-again : (s : Saved) → told s ≡ true → outward (inward s) ≡ s
-saved-again s t = ap (λ (n : ℕ). savedFrom n (s .ticks) (s .counts) (s .states)) (go (eqb (s .armed) 1) refl)
+saved-again s t = ap (λ (n : ℕ). savedFrom (numbered n (standingInward (s .standing))) (s .states)) (go (eqb (s .standing .armed) 1) refl)
   where
-    go : (b : Bool) → eqb (s .armed) 1 ≡ b → cond b 1 0 ≡ s .armed
+    go : (b : Bool) → eqb (s .standing .armed) 1 ≡ b → cond b 1 0 ≡ s .standing .armed
     go true e = sym (eqb-true _ _ e)
-    go false e = omega (arith, eqb-false (s .armed) 1 e, leb-true (s .armed) 1 t)
+    go false e = omega (arith, eqb-false (s .standing .armed) 1 e, leb-true (s .standing .armed) 1 t)
 
 -- ---- demand 1: a refused call hands back the very run that was saved, told or not, whatever the configuration
 
@@ -115,7 +115,7 @@ module _ (c : Config) (s : Saved) where
 
 -- a rejected packet: R of the saved run, and every other number stays
 abbrev pub onlyR : Saved → Saved
-onlyR s = savedFrom (s .armed) (s .ticks) (rejectedCounts (s .counts)) (s .states)
+onlyR s = savedFrom (record { armed = s .standing .armed; ticks = s .standing .ticks; counts = rejectedCounts (s .standing .counts) }) (s .states)
 
 -- so of a packet that is rejected, whatever the configuration and the saved run
 pub packet-call-rejected : (c : Config) (s : Saved) (p : List ℕ) (room : ℕ) → isRejection (packetCall c s p room .answer .answer) ≡ true
@@ -232,8 +232,8 @@ module _ (image : List ℕ) (z : loadingOf image .answer ≡ 0) where
     c-calls-agree = same-calls config (loadOf image .run) xs ∙ calls-agree image z xs b
 
     -- each counter of the saved run is the number of its steps among the calls that had room
-    pub c-calls-count : afterCallsOn config begun xs .counts ≡ knownCounts records (heard [] xs)
-    c-calls-count = ap (λ (s : Saved). s .counts) (same-after config (loadOf image .run) xs) ∙ calls-count image z xs b
+    pub c-calls-count : afterCallsOn config begun xs .standing .counts ≡ knownCounts records (heard [] xs)
+    c-calls-count = ap (λ (s : Saved). s .standing .counts) (same-after config (loadOf image .run) xs) ∙ calls-count image z xs b
 
     -- the arm rule: a protected command from an accepted packet is let past exactly when the calls before it with room say so
     pub c-arm-rule :
@@ -261,7 +261,7 @@ Exports c s (fault f) out h states left = FaultCalls c s f out h states left
 pub lent-config : (c : Config) → configFrom (c .numbers) (c .routeids) (c .dests) (c .protected) (c .faultids) (c .responses) (c .latching) (c .argcounts) (c .args) ≡ c
 lent-config c = refl
 
-pub lent-run : (s : Saved) → savedFrom (s .armed) (s .ticks) (s .counts) (s .states) ≡ s
+pub lent-run : (s : Saved) → savedFrom (s .standing) (s .states) ≡ s
 lent-run s = refl
 
 -- a row of such calls under one configuration, each on the run that the one before handed back and left: from the run s on, the
@@ -295,12 +295,12 @@ pub chain-agrees : (image : List ℕ) → loadingOf image .answer ≡ 0 → {xs 
     → CallBytes (map callOf xs) → Chain (loadingOf image .config) (loadingOf image .run) xs rs os last
     → (rs ≡ callReplies (recordsOf image) [] (map callOf xs))
     × (os ≡ laid (callReplies (recordsOf image) [] (map callOf xs)) xs)
-    × (last .counts ≡ knownCounts (recordsOf image) (heard [] (map callOf xs)))
+    × (last .standing .counts ≡ knownCounts (recordsOf image) (heard [] (map callOf xs)))
 chain-agrees image z {xs} b k =
     let e = chained k in (
       e .0 ∙ c-calls-agree image z (map callOf xs) b,
       e .1 ∙ c-outputs-agree image z xs b,
-      ap (λ (s : Saved). s .counts) (e .2) ∙ c-calls-count image z (map callOf xs) b,
+      ap (λ (s : Saved). s .standing .counts) (e .2) ∙ c-calls-count image z (map callOf xs) b,
     )
 
 -- and the arm rule: behind any such row, a protected command from an accepted packet is let past exactly when the calls say so

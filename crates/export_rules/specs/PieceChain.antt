@@ -110,6 +110,6 @@ pub c-pieces-agree : (image : List ℕ) → loadingOf image .answer ≡ 0 → (a
     → let es = eventsOf (recordsOf (a ++ allMore xs)) in
     let n = chainOn (loadingOf image .config) (loadingOf image .run) a room xs .count in
     (chainBytesOn (loadingOf image .config) (loadingOf image .run) a room xs ≡ allBytes (take n (replies (recordsOf image) [] es)))
-    × (chainOn (loadingOf image .config) (loadingOf image .run) a room xs .run .counts ≡ knownCounts (recordsOf image) (latestFirst [] (take n es)))
+    × (chainOn (loadingOf image .config) (loadingOf image .run) a room xs .run .standing .counts ≡ knownCounts (recordsOf image) (latestFirst [] (take n es)))
 c-pieces-agree image z a room xs b =
     rw (same-chain (loadOf image .config) (loadOf image .run) a room xs, same-chain-bytes (loadOf image .config) (loadOf image .run) a room xs) (pieces-agree image z a room xs b)

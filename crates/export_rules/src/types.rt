@@ -5,17 +5,24 @@ use state::types::Arm;
 use state::types::Config;
 use state::types::Counts;
 use state::types::Run;
+use state::types::Standing;
 use step_rules::types::Answer;
 use step_rules::types::Left;
 ghost use mathlib.Core.Path.{_≡_};
-ghost use Rattle.export_rules.specs.Boundary.{armInward, outward, handedFrom, portionFrom, leftOutward, reachedOutward, refusedLeft, refusedReached};
+ghost use Rattle.export_rules.specs.Boundary.{standingInward, standingOutward, outward, handedFrom, portionFrom, leftOutward, reachedOutward, refusedLeft, refusedReached};
 
-// A run as C keeps it: armed is 0 or 1, and a state with any other number breaks its rules.
+// A standing as C keeps it: armed is 0 or 1, and a state with any other number breaks its rules.
 #[repr(C)]
-pub struct Saved {
+pub struct SavedStanding {
     pub armed: u8,
     pub ticks: u16,
     pub counts: Counts,
+}
+
+// A run as C keeps it.
+#[repr(C)]
+pub struct Saved {
+    pub standing: SavedStanding,
     pub states: [u8; 32],
 }
 
@@ -38,31 +45,41 @@ pub struct Loading {
 // What a step hands back; the fault states are left where they were lent.
 #[repr(C)]
 pub struct Handed {
-    pub armed: u8,
-    pub ticks: u16,
-    pub counts: Counts,
+    pub standing: SavedStanding,
     pub answer: Answer,
 }
 
 // What a piece of a recording hands back, the fault states as in `Handed`.
 #[repr(C)]
 pub struct Portion {
-    pub armed: u8,
-    pub ticks: u16,
-    pub counts: Counts,
+    pub standing: SavedStanding,
     pub stop: u8,
     pub read: usize,
     pub count: usize,
     pub wrote: usize,
 }
 
-// The arm record that two numbers stand for.
-pub fn arm_in(armed: u8, ticks: u16) -> Arm
-    ensures { λ r. ⌜ r ≡ armInward armed ticks ⌝ }
+// The standing that C's stands for. This function and the next one alone know both forms.
+pub fn standing_in(standing: SavedStanding) -> Standing
+    ensures { λ r. ⌜ r ≡ standingInward standing ⌝ }
 {
-    Arm {
-        armed: armed == 1,
-        ticks,
+    let arm = Arm {
+        armed: standing.armed == 1,
+        ticks: standing.ticks,
+    };
+    let counts = standing.counts;
+    Standing { arm, counts }
+}
+
+// A standing to be saved.
+pub fn standing_out(standing: Standing) -> SavedStanding
+    ensures { λ r. ⌜ r ≡ standingOutward standing ⌝ }
+{
+    let counts = standing.counts;
+    SavedStanding {
+        armed: standing.arm.armed as u8,
+        ticks: standing.arm.ticks,
+        counts,
     }
 }
 
@@ -70,60 +87,38 @@ pub fn arm_in(armed: u8, ticks: u16) -> Arm
 pub fn run_out(run: Run) -> Saved
     ensures { λ r. ⌜ r ≡ outward run ⌝ }
 {
-    let arm = run.arm;
-    let counts = run.counts;
     let states = run.states;
     Saved {
-        armed: arm.armed as u8,
-        ticks: arm.ticks,
-        counts,
+        standing: standing_out(run.standing),
         states,
     }
 }
 
-fn handed_of(armed: u8, ticks: u16, counts: Counts, answer: Answer) -> Handed
-    ensures { λ r. ⌜ r ≡ handedFrom armed ticks counts answer ⌝ }
+fn handed_of(standing: SavedStanding, answer: Answer) -> Handed
+    ensures { λ r. ⌜ r ≡ handedFrom standing answer ⌝ }
 {
-    Handed {
-        armed,
-        ticks,
-        counts,
-        answer,
-    }
+    Handed { standing, answer }
 }
 
 // What a step left, to be handed out.
 pub fn step_out(l: Left) -> Handed
     ensures { λ r. ⌜ r ≡ leftOutward l ⌝ }
 {
-    let left = l.arm;
-    let counts = l.counts;
-    let answer = l.answer;
-    handed_of(left.armed as u8, left.ticks, counts, answer)
+    handed_of(standing_out(l.standing), l.answer)
 }
 
 // An armed number that is neither 0 nor 1: 20, and all as it came.
-pub fn step_refused(armed: u8, ticks: u16, counts: Counts) -> Handed
-    ensures { λ r. ⌜ r ≡ refusedLeft armed ticks counts ⌝ }
+pub fn step_refused(standing: SavedStanding) -> Handed
+    ensures { λ r. ⌜ r ≡ refusedLeft standing ⌝ }
 {
-    handed_of(armed, ticks, counts, step_rules::types::bare(20))
+    handed_of(standing, step_rules::types::bare(20))
 }
 
-fn portion_of(
-    armed: u8,
-    ticks: u16,
-    counts: Counts,
-    stop: u8,
-    read: usize,
-    count: usize,
-    wrote: usize,
-) -> Portion
-    ensures { λ r. ⌜ r ≡ portionFrom armed ticks counts stop read count wrote ⌝ }
+fn portion_of(standing: SavedStanding, stop: u8, read: usize, count: usize, wrote: usize) -> Portion
+    ensures { λ r. ⌜ r ≡ portionFrom standing stop read count wrote ⌝ }
 {
     Portion {
-        armed,
-        ticks,
-        counts,
+        standing,
         stop,
         read,
         count,
@@ -135,22 +130,12 @@ fn portion_of(
 pub fn piece_out(r: Reached) -> Portion
     ensures { λ p. ⌜ p ≡ reachedOutward r ⌝ }
 {
-    let last = r.arm;
-    let counts = r.counts;
-    portion_of(
-        last.armed as u8,
-        last.ticks,
-        counts,
-        r.stop,
-        r.read,
-        r.count,
-        r.wrote,
-    )
+    portion_of(standing_out(r.standing), r.stop, r.read, r.count, r.wrote)
 }
 
 // An armed number that is neither 0 nor 1: 20, nothing read, and all as it came.
-pub fn piece_refused(armed: u8, ticks: u16, counts: Counts) -> Portion
-    ensures { λ r. ⌜ r ≡ refusedReached armed ticks counts ⌝ }
+pub fn piece_refused(standing: SavedStanding) -> Portion
+    ensures { λ r. ⌜ r ≡ refusedReached standing ⌝ }
 {
-    portion_of(armed, ticks, counts, 20, 0, 0, 0)
+    portion_of(standing, 20, 0, 0, 0)
 }

@@ -52,7 +52,7 @@ module _ (image : List ℕ) (z : loadOf image .answer ≡ 0) where
 
   pub sound : Sound records
   sound =
-      record { free = arm-free (tables records .base) _ (tables records .protected) (loads-good image z .rules .protected-ok) }
+      record { free = arm-free (tables records .settings .base) _ (tables records .protected) (loads-good image z .rules .protected-ok) }
 
   abbrev start : Row → ℕ
   start r = r .start
@@ -76,8 +76,8 @@ module _ (image : List ℕ) (z : loadOf image .answer ≡ 0) where
   agree es = rw (loaded-tables image z, fresh) (run-replies records sound [] es)
 
   -- each counter is the number of its steps since the last completed reset, or since loading, modulo 65,536
-  pub counters : (es : List Event) → after (tablesOf (loadOf image .config)) (loadOf image .run) es .counts ≡ knownCounts records (latestFirst [] es)
-  counters es = rw (loaded-tables image z, fresh) (ap (λ (r : Run). r .counts) (run-leaves records sound [] es))
+  pub counters : (es : List Event) → after (tablesOf (loadOf image .config)) (loadOf image .run) es .standing .counts ≡ knownCounts records (latestFirst [] es)
+  counters es = rw (loaded-tables image z, fresh) (ap (λ (r : Run). r .standing .counts) (run-leaves records sound [] es))
 
 -- ---- the arm rule, in the mission's words
 
@@ -127,7 +127,7 @@ module _ (image : List Record) (h : List Event) where
         let k = selects image p in
         let args = argumentsOf p in
         let unknown = namesFault k && not (anyRow (meantBy image (faultNamed args))) in
-        let z = no-30 (own (tables image .base) (commandId p)) (eqb (length args) (wanted k)) unknown (eqb k 0) (member (commandId p) (routed (tables image))) in
+        let z = no-30 (own (tables image .settings .base) (commandId p)) (eqb (length args) (wanted k)) unknown (eqb k 0) (member (commandId p) (routed (tables image))) in
         false≢true (sym z ∙ eq-eqb _ 30 (simp (m, past-armed l) at n))
 
     pub not-past : (LetPast image h → ⊥) → reply image h (packet p) .answer ≡ 30

@@ -83,10 +83,10 @@ module _ (image : List Record) where
   abbrev t : Tables
   t = tables image
 
-  pub selects-is : (p : List ℕ) → selects image p ≡ numberFor (ownCommand (t .base) (commandId p))
-  selects-is p = go (own.selects (t .base) (commandId p))
+  pub selects-is : (p : List ℕ) → selects image p ≡ numberFor (ownCommand (t .settings .base) (commandId p))
+  selects-is p = go (own.selects (t .settings .base) (commandId p))
     where
-      go : {o : Option Own} → own.Selects (t .base) (commandId p) o → selects image p ≡ numberFor o
+      go : {o : Option Own} → own.Selects (t .settings .base) (commandId p) o → selects image p ≡ numberFor o
       go (own.is-own k o e) = simp (o, e)
       go (own.not-own o) = simp o
 
@@ -107,8 +107,8 @@ module _ (image : List Record) where
   route-is true = refl
   route-is false = refl
 
-  own-or-route : (p : List ℕ) {o : Option Own} → own.Selects (t .base) (commandId p) o
-      → cond (rules.own (t .base) (commandId p)) (ownAnswer image (selects image p) (argumentsOf p)) (cond (member (commandId p) (routed t)) 10 33)
+  own-or-route : (p : List ℕ) {o : Option Own} → own.Selects (t .settings .base) (commandId p) o
+      → cond (rules.own (t .settings .base) (commandId p)) (ownAnswer image (selects image p) (argumentsOf p)) (cond (member (commandId p) (routed t)) 10 33)
       ≡ selectedAnswer (routed t) (map faultId (t .rows)) (commandId p) o (argumentsOf p)
   unfolding routeAnswer
   own-or-route p (own.is-own k o e) = simp (o, e) (own-is k (argumentsOf p))
@@ -123,7 +123,7 @@ module _ (image : List Record) where
   pub answer-is : (h : List Event) (p : List ℕ) → packetAnswer image h p ≡ answerTo t (armed image h) (commandId p) (argumentsOf p)
   unfolding blocked answerFor
   answer-is h p =
-      ap (λ (x : ℕ). cond (stopped image h p) 30 x) (own-or-route p (own.selects (t .base) (commandId p)))
+      ap (λ (x : ℕ). cond (stopped image h p) 30 x) (own-or-route p (own.selects (t .settings .base) (commandId p)))
       ∙ protect (member (commandId p) (t .protected)) (armed image h) _
 
   -- ---- 11 is a well-formed arm command, where the arm id is not protected
@@ -142,21 +142,21 @@ module _ (image : List Record) where
       go false b = refl
 
   -- no protected id is the arm id
-  module _ (free : member (t .base) (t .protected) ≡ false) where
-    not-arm : (p : List ℕ) → rules.own (t .base) (commandId p) ≡ true → member (commandId p) (t .protected) ≡ true → eqb (selects image p) 0 ≡ false
+  module _ (free : member (t .settings .base) (t .protected) ≡ false) where
+    not-arm : (p : List ℕ) → rules.own (t .settings .base) (commandId p) ≡ true → member (commandId p) (t .protected) ≡ true → eqb (selects image p) 0 ≡ false
     not-arm p o m =
-        let r = own.own-range (t .base) (commandId p) o in
-        simp o (ne-eqb (commandId p - t .base) 0 (λ z. let e : commandId p ≡ t .base = omega arith in false≢true (sym free ∙ rw e at m)))
+        let r = own.own-range (t .settings .base) (commandId p) o in
+        simp o (ne-eqb (commandId p - t .settings .base) 0 (λ z. let e : commandId p ≡ t .settings .base = omega arith in false≢true (sym free ∙ rw e at m)))
 
     pub arm-answer : (h : List Event) (p : List ℕ) → eqb (packetAnswer image h p) 11 ≡ isArm image p
-    arm-answer h p = go (stopped image h p) refl (rules.own (t .base) (commandId p)) refl
+    arm-answer h p = go (stopped image h p) refl (rules.own (t .settings .base) (commandId p)) refl
       where
         no-route-11 : (m : Bool) → eqb (cond m 10 33) 11 ≡ false
         no-route-11 true = refl
         no-route-11 false = refl
 
-        go : (s : Bool) → stopped image h p ≡ s → (o : Bool) → rules.own (t .base) (commandId p) ≡ o → eqb (packetAnswer image h p) 11 ≡ isArm image p
+        go : (s : Bool) → stopped image h p ≡ s → (o : Bool) → rules.own (t .settings .base) (commandId p) ≡ o → eqb (packetAnswer image h p) 11 ≡ isArm image p
         go true e true o = sym (simp (not-arm p o (both (member (commandId p) (t .protected)) _ e .0), e))
         go true e false o = sym (simp (o, e))
-        go false e true o = simp e (simp o (arm-own (commandId p - t .base) (argumentsOf p)))
+        go false e true o = simp e (simp o (arm-own (commandId p - t .settings .base) (argumentsOf p)))
         go false e false o = simp (e, o) (no-route-11 (member (commandId p) (routed t)))

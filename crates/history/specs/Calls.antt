@@ -173,8 +173,8 @@ module _ (image : List ℕ) (z : loadOf image .answer ≡ 0) where
         broken (fault f) n = fault-20-broken _ _ f (x .room) n
 
     -- and each counter is the number of its steps among the calls that had room
-    pub calls-count : afterCalls config (loadOf image .run) xs .counts ≡ knownCounts records (heard [] xs)
-    calls-count = ap (λ (r : Run). r .counts) calls-leave
+    pub calls-count : afterCalls config (loadOf image .run) xs .standing .counts ≡ knownCounts records (heard [] xs)
+    calls-count = ap (λ (r : Run). r .standing .counts) calls-leave
 
     -- one call behind them has the plain reply that the calls before it with room ask for
     pub call-behind : (x : Call) → replyOf (tablesOf config) (x .event) (stepOf config (afterCalls config (loadOf image .run) xs) (x .event) (x .room)) ≡ callReply records (heard [] xs) x

@@ -7,7 +7,7 @@ use Prim.Native.Nat.{ℕ, _-_, _%_}
 use lib.ListN.{length}
 use Rattle.state.specs.declared.types.Run.{Run}
 use Rattle.state.specs.declared.types.Counts.{Counts}
-use Rattle.state.specs.Tables.{runFrom}
+use Rattle.state.specs.Tables.{withArm, withCounts, firstStanding, runFrom}
 use Rattle.image_rules.specs.Records.{Record}
 use Rattle.history.specs.RowsLaws.{statesFor}
 use Rattle.history.specs.Plain.{Event, nearest, ticksSince, isArm, timeout, armed, rows, stateOf, count, movesA, movesR, movesD, movesP, movesU, movesI, movesF}
@@ -32,6 +32,6 @@ module _ (image : List Record) where
 
   abbrev pub known : List Event → Run
   known h =
-      runFrom (record { armed = armed image h; ticks = left (nearest image h) (ticksSince image h) })
-      (knownCounts h)
+      runFrom
+      (withArm (record { armed = armed image h; ticks = left (nearest image h) (ticksSince image h) }) (withCounts (knownCounts h) firstStanding))
       (statesFor (stateOf image h) (length (rows image)))

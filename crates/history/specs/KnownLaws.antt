@@ -133,7 +133,7 @@ module _ (image : List Record) where
 -- ---- the conditions of a good image that the reading rests on
 
 pub record Sound (image : List Record) : Type 0 where
-  pub free : member (tables image .base) (tables image .protected) ≡ false
+  pub free : member (tables image .settings .base) (tables image .protected) ≡ false
 
 module _ (image : List Record) where
   abbrev count : ℕ
@@ -153,7 +153,7 @@ module _ (image : List Record) where
       n = packetAnswer image h p
 
       abbrev o : Option Own
-      o = ownCommand (tables image .base) (commandId p)
+      o = ownCommand (tables image .settings .base) (commandId p)
 
       done-is : (j : ℕ) → eqb n 12 ≡ true → done image j h p ≡ eqb (selects image p) j
       done-is j e = rw (a, e, and-true (eqb (selects image p) j))

@@ -75,11 +75,11 @@ sent-over n source id args out = go (eqb n 10)
 module _ (t : Tables) (n : ℕ) (out : List ℕ) where
   pub packet-over : (p : List ℕ) → packetOutput t n p out ≡ over (bytesFor t (packet p) n) out
   unfolding packetOutput
-  packet-over p = sent-over n (t .ground) (commandId p) (argumentsOf p) out
+  packet-over p = sent-over n (t .settings .ground) (commandId p) (argumentsOf p) out
 
   pub fault-over : (f : ℕ) → faultOutput t n f out ≡ over (bytesFor t (fault f) n) out
   unfolding faultOutput
-  fault-over f = let row = rowFor (meant t f) (t .rows) in sent-over n (t .fault) (row .response) (row .args) out
+  fault-over f = let row = rowFor (meant t f) (t .rows) in sent-over n (t .settings .fault) (row .response) (row .args) out
 
   pub output-over : (e : Event) → outputFor t e n out ≡ over (bytesFor t e n) out
   output-over (packet p) = packet-over p
@@ -119,12 +119,12 @@ command-fits n source id args l = (go (eqb n 10), λ h. simp (ne-eqb n 10 h))
 -- so does every reply of the running path, whatever its run
 pub step-fits : (t : Tables) → Each (RowOk (routed t)) (t .rows) → (s : Run) (e : Event) → Fits (replyOf t e (step t s e))
 step-fits t ok s (packet p) =
-    let f = command-fits (step t s (packet p) .answer .answer) (t .ground) (commandId p) (argumentsOf p) (arguments-few p) in
+    let f = command-fits (step t s (packet p) .answer .answer) (t .settings .ground) (commandId p) (argumentsOf p) (arguments-few p) in
     record { short = f .0; quiet = f .1 }
 step-fits t ok s tick = record { short = lit≤ tt; quiet = λ q. refl }
 step-fits t ok s (fault f) =
     let r = rowFor (meant t f) (t .rows) in
-    let w = command-fits (step t s (fault f) .answer .answer) (t .fault) (r .response) (r .args) (row-few (routed t) (t .rows) ok (meant t f)) in
+    let w = command-fits (step t s (fault f) .answer .answer) (t .settings .fault) (r .response) (r .args) (row-few (routed t) (t .rows) ok (meant t f)) in
     record { short = w .0; quiet = w .1 }
 
 bare-fits : (n : ℕ) → Fits (bareReply n)

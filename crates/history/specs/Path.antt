@@ -22,10 +22,10 @@ step t run (fault f) = faultStep t run f
 
 -- the bytes that it writes at the start of the output
 abbrev pub bytesFor : Tables → Event → ℕ → List ℕ
-bytesFor t (packet p) n = cond (eqb n 10) (commandBytes (t .ground) (commandId p) (argumentsOf p)) []
+bytesFor t (packet p) n = cond (eqb n 10) (commandBytes (t .settings .ground) (commandId p) (argumentsOf p)) []
 bytesFor t tick n = []
 bytesFor t (fault f) n =
-    cond (eqb n 10) (commandBytes (t .fault) (rowFor (meant t f) (t .rows) .response) (rowFor (meant t f) (t .rows) .args)) []
+    cond (eqb n 10) (commandBytes (t .settings .fault) (rowFor (meant t f) (t .rows) .response) (rowFor (meant t f) (t .rows) .args)) []
 
 -- the reply of a step that gave this answer
 abbrev pub replyWith : Tables → Event → Answer → Reply

@@ -160,7 +160,7 @@ module _ (image : List Record) where
 
   -- the own command that a packet's id selects; 8 where the id is no own id
   abbrev pub selects : List ℕ → ℕ
-  selects p = cond (own (tables .base) (commandId p)) (commandId p - tables .base) 8
+  selects p = cond (own (tables .settings .base) (commandId p)) (commandId p - tables .settings .base) 8
 
   -- a well-formed arm command, and its timeout
   abbrev pub isArm : List ℕ → Bool
@@ -194,7 +194,7 @@ module _ (image : List Record) where
   abbrev pub packetAnswer : List Event → List ℕ → ℕ
   packetAnswer h p =
       cond (stopped h p) 30
-      (cond (own (tables .base) (commandId p)) (ownAnswer (selects p) (argumentsOf p))
+      (cond (own (tables .settings .base) (commandId p)) (ownAnswer (selects p) (argumentsOf p))
       (cond (member (commandId p) (routed tables)) 10 33))
 
   -- an accepted packet with the own command k that was done
@@ -225,7 +225,7 @@ module _ (image : List Record) where
   abbrev pub packetReply : List ℕ → ℕ → Reply
   packetReply p n =
       cond (eqb n 10)
-      (dispatchedReply (tables .ground) (commandId p) (destination (commandId p) (tables .routes)) (argumentsOf p))
+      (dispatchedReply (tables .settings .ground) (commandId p) (destination (commandId p) (tables .routes)) (argumentsOf p))
       (namedReply n (commandId p))
 
   abbrev pub rowMeant : Option ℕ → FaultRow
@@ -235,7 +235,7 @@ module _ (image : List Record) where
   abbrev pub faultReply : Option ℕ → ℕ → Reply
   faultReply place n =
       cond (eqb n 10)
-      (dispatchedReply (tables .fault) (rowMeant place .response) (destination (rowMeant place .response) (tables .routes)) (rowMeant place .args))
+      (dispatchedReply (tables .settings .fault) (rowMeant place .response) (destination (rowMeant place .response) (tables .routes)) (rowMeant place .args))
       (bareReply n)
 
   abbrev pub reply : List Event → Event → Reply

@@ -29,7 +29,7 @@ module _ (image : List ℕ) (z : loadOf image .answer ≡ 0) where
 
   -- the counters that n of an event leave
   abbrev pub left-by : ℕ → Event → Counts
-  left-by n e = after (tablesOf (loadOf image .config)) (loadOf image .run) (times n e) .counts
+  left-by n e = after (tablesOf (loadOf image .config)) (loadOf image .run) (times n e) .standing .counts
 
   pub faults-counted : (f n : ℕ) → left-by n (fault f) .f ≡ n % 65536
   faults-counted f n =

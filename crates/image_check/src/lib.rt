@@ -1,8 +1,9 @@
-// What refuses a whole record, one function for each kind: by its size, the order of kinds and ids, the room in its table, and its
-// rules. Each asks in the order of the numbers and returns at the first that fails. Of the rows before it only the ids are looked
-// at, in arrays that are lent, so that nothing is copied; and only those that the kind has to know of.
+// What refuses a whole record, one function for each kind of rows and one for all single kinds: by its size, the order of kinds
+// and ids, the room in its table, and its rules. Each asks in the order of the numbers and returns at the first that fails. Of
+// the rows before it only the ids are looked at, in arrays that are lent, so that nothing is copied; and only those that the
+// kind has to know of.
 ghost use mathlib.Core.Path.{_≡_};
-ghost use mathlib.Core.Bool.{_&&_};
+ghost use mathlib.Core.Bool.{true, _&&_};
 ghost use mathlib.Core.List.{[]};
 ghost use Prim.Native.Nat.{_≤_};
 ghost use lib.Dec.{leb};
@@ -12,11 +13,13 @@ ghost use Rattle.state.specs.Tables.{Tables, routed};
 ghost use Rattle.state.specs.Lookup.{Slots, Column};
 ghost use Rattle.state.specs.Rules.{member, floor, startOk, rowOk};
 ghost use Rattle.state.specs.Test.{protectedPasses};
-ghost use Rattle.image_rules.specs.Kinds.{rowSized};
-ghost use Rattle.image_rules.specs.Checks.{refusalAfter};
+ghost use Rattle.image_rules.specs.Written.{settingsOfRecords, settingsWith};
+ghost use Rattle.image_rules.specs.Kinds.{one, sized, rowSized, lastOfKinds, kindOf};
+ghost use Rattle.image_rules.specs.Checks.{inOrder, refusalAfter};
 ghost use Rattle.image_rules.specs.RecordParts.{Holds, placeRefusal};
 use image_rules::record::word_at;
 use state::rules;
+use state::types::Settings;
 use state_lookup::holds;
 
 // ---- what kinds share
@@ -62,22 +65,58 @@ fn rule_refusal(ok: bool) -> u8
     7
 }
 
-// ---- kind 1
+// ---- single kinds
 
-// The sources differ, and own base fits.
-pub fn basics_refusal(last: u16, body: &[u8]) -> u8
-    ensures { λ r. ⌜ ((t : Tables) → r ≡ refusalAfter last [] t 1 (now (body .entry))) ⌝ }
+// Before any record: the default of each kind that may be missing, and zero.
+pub fn first_settings() -> Settings
+    ensures { λ r. ⌜ r ≡ settingsOfRecords [] ⌝ }
 {
-    if body.len() != 6 {
+    Settings {
+        ground: 0,
+        fault: 0,
+        base: 0,
+    }
+}
+
+// The settings with what a record of a single kind sets.
+// internal: for the loader, which has seen that the body has its size.
+pub fn settings_with(settings: Settings, kind: u16, body: &[u8]) -> Settings
+    requires { ⌜ sized (kindOf kind) (now body) ≡ true ⌝ }
+    ensures { λ r. ⌜ r ≡ settingsWith kind (now (body .entry)) settings ⌝ }
+{
+    let mut next = settings;
+    if kind == 1 {
+        next.ground = word_at(body, 0);
+        next.fault = word_at(body, 2);
+        next.base = word_at(body, 4);
+        return next;
+    }
+    next
+}
+
+// The first record is of kind 1; any other single kind stands behind lower kinds.
+fn one_in_order(last: u16, kind: u16) -> bool
+    ensures { λ r. ⌜ r ≡ inOrder true last kind ⌝ }
+{
+    if last == 0 {
+        return kind == 1;
+    }
+    last < kind
+}
+
+// A record of a single kind with bodies of this size, behind records that set these settings.
+// internal: for the loader, which knows the table of kinds.
+pub fn one_refusal(last: u16, kind: u16, size: usize, body: &[u8], settings: Settings) -> u8
+    requires { ⌜ (1 ≤ kind) × (kind ≤ lastOfKinds) × (kindOf kind ≡ one size) ⌝ }
+    ensures { λ r. ⌜ ((t : Tables) → settings ≡ t .settings → r ≡ refusalAfter last [] t kind (now (body .entry))) ⌝ }
+{
+    if body.len() != size {
         return 3;
     }
-    if last != 0 {
+    if !one_in_order(last, kind) {
         return 4;
     }
-    let ground = word_at(body, 0);
-    let fault = word_at(body, 2);
-    let base = word_at(body, 4);
-    rule_refusal(rules::basics_ok(ground, fault, base))
+    rule_refusal(rules::settings_ok(settings_with(settings, kind, body)))
 }
 
 // ---- kind 2
@@ -86,7 +125,7 @@ pub fn basics_refusal(last: u16, body: &[u8]) -> u8
 // internal: for the loader, whose arrays are so.
 pub fn route_refusal<'a>(last: u16, body: &'a [u8], base: u16, ids: &'a [u16; 128], n: usize) -> u8
     requires { ⌜ Slots 128 (now ids) n ⌝ }
-    ensures { λ r. ⌜ ((t : Tables) → base ≡ t .base → r ≡ refusalAfter last (take n (now (ids .entry))) t 2 (now (body .entry))) ⌝ }
+    ensures { λ r. ⌜ ((t : Tables) → base ≡ t .settings .base → r ≡ refusalAfter last (take n (now (ids .entry))) t 2 (now (body .entry))) ⌝ }
 {
     if body.len() != 3 {
         return 3;

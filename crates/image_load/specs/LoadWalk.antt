@@ -6,14 +6,16 @@ use Prim.Native.Nat.{ℕ, _+_, _-_, _<_, _≤_}
 use native.Mathlib.Omega.{arith}
 use lib.ListN.{length, replicate}
 use borrow.Author.Tests.{ne-eqb}
+use Rattle.state.specs.declared.types.Settings.{Settings}
 use Rattle.state.specs.declared.types.Numbers.{Numbers}
 use Rattle.state.specs.declared.types.Config.{Config}
-use Rattle.state.specs.Tables.{empty, configOf, firstRun}
+use Rattle.state.specs.Tables.{configOf, firstRun}
 use Rattle.image_rules.specs.Records.{Record, cut, recordAt, recordsFrom}
-use Rattle.image_load.specs.Image.{lastKind, recordRefusal, refused, loadAfter, loadOf}
+use Rattle.image_load.specs.Image.{tablesOfRecords, lastKind, recordRefusal, refused, loadAfter, loadOf}
 use Rattle.image_rules.specs.RecordLaws.{Whole, bodyAt, whole-at, body-ends, one-from, none-from, last-snoc}
-use Rattle.image_load.specs.Held.{Held, none-held}
-use Rattle.image_load.specs.Taking.{Ready, whole, Adds, Takes}
+use Rattle.image_load.specs.Stored.{Countable}
+use Rattle.image_load.specs.Held.{Held, none-held, countable}
+use Rattle.image_load.specs.Taking.{Ready, whole, Adds, Takes, good-whole}
 
 -- the arrays hold the records before the cursor, and loading goes on from there
 pub record Walked (bs : List ℕ) (c : Config) (states : List ℕ) (last place : ℕ) : Type 0 where
@@ -25,13 +27,13 @@ pub record Walked (bs : List ℕ) (c : Config) (states : List ℕ) (last place :
   pub last-is : last ≡ lastKind before
   pub rest : loadOf bs ≡ loadAfter before (recordsFrom fuel bs place)
 
--- no sources, no rows
-abbrev pub noNumbers : Numbers
-noNumbers = record { ground = 0; fault = 0; base = 0; nroutes = 0; nprotected = 0; nrows = 0 }
+-- no rows
+abbrev pub noRows : Settings → Numbers
+noRows settings = record { settings = settings; nroutes = 0; nprotected = 0; nrows = 0 }
 
 -- columns that hold nothing
 pub record Blank (c : Config) (states : List ℕ) : Type 0 where
-  pub no-tables : c ≡ configOf empty
+  pub no-tables : c ≡ configOf (tablesOfRecords [])
   pub no-starts : states ≡ replicate 32 0
 
 -- what reading all records came to, and the columns that it left
@@ -89,6 +91,10 @@ module _ {bs : List ℕ} {c : Config} {states : List ℕ} {last place : ℕ} (w 
 
     pub refuses : (n ≡ 0 → ⊥) → refused n place ≡ loadOf bs
     refuses q = sym (w .rest ∙ rw (here, ← told) (simp (ne-eqb _ _ q)))
+
+    -- its numbers can be counted
+    pub counts : n ≡ 0 → Countable (bodyAt bs place end) kind (c .numbers)
+    counts z = countable (w .held) (good-whole (adds .refusal-is) z place)
 
     -- the loop goes on behind it
     pub goes-on : n ≡ 0 → Walked bs d ss kind end

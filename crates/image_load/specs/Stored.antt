@@ -1,8 +1,10 @@
 -- The arrays take a record as the tables do: the stores of the code behind the last row are a row more.
 use mathlib.Core.Path.{_≡_, refl, sym, ap, _∙_}
+use mathlib.Core.Bool.{true, cond}
 use mathlib.Core.List.{List, [], _∷_, _++_, map, map-append}
 use Prim.Native.Nat.{ℕ, _+_, _-_, _*_, _≤_, _<_}
 use native.Mathlib.Omega.{arith}
+use lib.Dec.{eqb}
 use lib.ListN.{length, getD, take, drop, set, length-append, length-map, length-take, length-drop}
 use Rattle.wire.specs.Put.{putAt}
 use Rattle.state.specs.declared.types.Numbers.{Numbers}
@@ -12,7 +14,9 @@ use Rattle.state.specs.KeepsLaws.{Few}
 use Rattle.state.specs.ArrayLaws.{padded-more, short-args, args-more}
 use Rattle.image_rules.specs.Records.{le16}
 use Rattle.image_load.specs.Image.{routeIn, rowIn}
-use Rattle.image_rules.specs.Written.{plus}
+use Rattle.image_rules.specs.Written.{settingsWith, plus}
+use Rattle.image_rules.specs.Kinds.{isSingle, sized, kindOf}
+use Rattle.image_rules.specs.RecordLaws.{not-rows}
 
 -- ---- a configuration with the columns that a kind is lent, and the others of c
 
@@ -32,35 +36,37 @@ abbrev pub withRows : Config → Numbers → List ℕ → List ℕ → List ℕ 
 withRows c numbers routeids faultids responses latching argcounts args =
     configFrom numbers routeids (c .dests) (c .protected) faultids responses latching argcounts args
 
+-- ---- the numbers behind a record: a row more of its kind, or what a single record sets
+
+abbrev pub numbersBehind : ℕ → List ℕ → Numbers → Numbers
+numbersBehind kind b n =
+    record {
+      settings = settingsWith kind b (n .settings);
+      nroutes = cond (eqb kind 2) (n .nroutes + 1) (n .nroutes);
+      nprotected = cond (eqb kind 3) (n .nprotected + 1) (n .nprotected);
+      nrows = cond (eqb kind 4) (n .nrows + 1) (n .nrows);
+    }
+
+-- a body of its kind's size, and counts that fit their tables
+pub record Countable (b : List ℕ) (kind : ℕ) (n : Numbers) : Type 0 where
+  pub fits : sized (kindOf kind) b ≡ true
+  pub few : (n .nroutes ≤ 128) × (n .nprotected ≤ 32) × (n .nrows ≤ 32)
+
 -- ---- what the code does to the arrays
 
-abbrev numbersFrom : ℕ → ℕ → ℕ → ℕ → ℕ → ℕ → Numbers
-numbersFrom ground fault base nroutes nprotected nrows =
-    record { ground = ground; fault = fault; base = base; nroutes = nroutes; nprotected = nprotected; nrows = nrows }
+abbrev pub putRoute : Config → List ℕ → ℕ → ℕ → Config
+putRoute c b id dest =
+    let n = c .numbers .nroutes in
+    withRoutes c (numbersBehind 2 b (c .numbers)) (set (c .routeids) n id) (set (c .dests) n dest)
 
-abbrev pub putBasics : Config → ℕ → ℕ → ℕ → Config
-putBasics c ground fault base =
-    let n = c .numbers in
-    withNumbers c (numbersFrom ground fault base (n .nroutes) (n .nprotected) (n .nrows))
+abbrev pub putProtected : Config → List ℕ → ℕ → Config
+putProtected c b id = withProtected c (numbersBehind 3 b (c .numbers)) (c .routeids) (set (c .protected) (c .numbers .nprotected) id)
 
-abbrev pub putRoute : Config → ℕ → ℕ → Config
-putRoute c id dest =
-    let n = c .numbers in
-    withRoutes c (numbersFrom (n .ground) (n .fault) (n .base) (n .nroutes + 1) (n .nprotected) (n .nrows))
-    (set (c .routeids) (n .nroutes) id) (set (c .dests) (n .nroutes) dest)
-
-abbrev pub putProtected : Config → ℕ → Config
-putProtected c id =
-    let n = c .numbers in
-    withProtected c (numbersFrom (n .ground) (n .fault) (n .base) (n .nroutes) (n .nprotected + 1) (n .nrows))
-    (c .routeids) (set (c .protected) (n .nprotected) id)
-
-abbrev pub putRow : Config → ℕ → ℕ → ℕ → ℕ → List ℕ → Config
-putRow c id response latching count args =
-    let n = c .numbers in
-    withRows c (numbersFrom (n .ground) (n .fault) (n .base) (n .nroutes) (n .nprotected) (n .nrows + 1)) (c .routeids)
-    (set (c .faultids) (n .nrows) id) (set (c .responses) (n .nrows) response) (set (c .latching) (n .nrows) latching)
-    (set (c .argcounts) (n .nrows) count) args
+abbrev pub putRow : Config → List ℕ → ℕ → ℕ → ℕ → ℕ → List ℕ → Config
+putRow c b id response latching count args =
+    let k = c .numbers .nrows in
+    withRows c (numbersBehind 4 b (c .numbers)) (c .routeids) (set (c .faultids) k id) (set (c .responses) k response) (set (c .latching) k latching)
+    (set (c .argcounts) k count) args
 
 -- ---- which is what a record does to the tables
 
@@ -77,18 +83,18 @@ module _ (b : List ℕ) (fits : length b ≡ 7 + getD b 6 0) where
   args-count = simp (length-take, length-drop) (omega arith)
 
 module _ (t : Tables) (b : List ℕ) where
-  pub stored-1 : putBasics (configOf t) (le16 b 0) (le16 b 2) (le16 b 4) ≡ configOf (plus t 1 b)
-  stored-1 = refl
+  pub stored-one : (kind : ℕ) → isSingle (kindOf kind) ≡ true → withNumbers (configOf t) (numbersBehind kind b (configOf t .numbers)) ≡ configOf (plus t kind b)
+  stored-one kind s = rw (not-rows kind 2 s refl, not-rows kind 3 s refl, not-rows kind 4 s refl)
 
-  pub stored-2 : length (t .routes) < 128 → putRoute (configOf t) (le16 b 0) (getD b 2 0) ≡ configOf (plus t 2 b)
+  pub stored-2 : length (t .routes) < 128 → putRoute (configOf t) b (le16 b 0) (getD b 2 0) ≡ configOf (plus t 2 b)
   stored-2 l =
       rw (more routeId 128 (t .routes) (routeIn b) l, more (λ (r : Route). r .dest) 128 (t .routes) (routeIn b) l) (simp length-append)
 
-  pub stored-3 : length (t .protected) < 32 → putProtected (configOf t) (le16 b 0) ≡ configOf (plus t 3 b)
+  pub stored-3 : length (t .protected) < 32 → putProtected (configOf t) b (le16 b 0) ≡ configOf (plus t 3 b)
   stored-3 l = rw (padded-more 32 (t .protected) (length (t .protected)) (le16 b 0) refl l) (simp length-append)
 
   pub stored-4 : (length b ≡ 7 + getD b 6 0) × (getD b 6 0 ≤ 16) → Few t → length (t .rows) < 32
-      → putRow (configOf t) (le16 b 0) (le16 b 2) (getD b 5 0) (getD b 6 0) (putAt (configOf t .args) (length (t .rows) * 16) (take (length b - 7) (drop 7 b)))
+      → putRow (configOf t) b (le16 b 0) (le16 b 2) (getD b 5 0) (getD b 6 0) (putAt (configOf t .args) (length (t .rows) * 16) (take (length b - 7) (drop 7 b)))
       ≡ configOf (plus t 4 b)
   stored-4 (fits, few) f l =
       let rows = t .rows in

@@ -1,21 +1,25 @@
 -- What taking a record comes to: its refusal, or arrays that hold it too. The contracts of the functions of `take` say so, and
 -- each of their ways out is one law.
-use mathlib.Core.Path.{_≡_, sym, _∙_}
+use mathlib.Core.Path.{_≡_, sym, ap, _∙_}
 use mathlib.Core.Bool.{true}
-use mathlib.Core.Logic.{_⊎_, inl, inr}
 use mathlib.Core.List.{List, [], _∷_, _++_}
-use Prim.Native.Nat.{ℕ, _<_}
+use Prim.Native.Nat.{ℕ, _≤_}
 use native.Mathlib.Omega.{arith}
+use lib.Dec.{leb}
 use lib.ListN.{take}
+use borrow.Author.Tests.{leb-true, leb-false}
+use Rattle.state.specs.declared.types.Settings.{Settings}
 use Rattle.state.specs.declared.types.Config.{Config}
 use Rattle.state.specs.Tables.{Tables, routed}
+use Rattle.state.specs.KeepsLaws.{split}
 use Rattle.image_rules.specs.Records.{Record}
 use Rattle.image_load.specs.Image.{tablesOfRecords, refusalAfter, recordRefusal, lastKind}
-use Rattle.image_rules.specs.Kinds.{lastOfKinds, idsIn}
+use Rattle.image_rules.specs.Kinds.{isSingle, lastOfKinds, kindOf, idsIn}
 use Rattle.image_rules.specs.RecordOutcome.{GoodAfter, no-kind, past-kinds}
 use Rattle.image_rules.specs.RecordOutcomeLaws.{verdict-only, zero-good}
 use Rattle.image_rules.specs.RecordParts.{Holds}
-use Rattle.image_load.specs.Held.{Held, base-is, routes-are, held-routes, held-protected, held-faults}
+use Rattle.image_load.specs.Stored.{withNumbers, numbersBehind}
+use Rattle.image_load.specs.Held.{Held, settings-are, held-one, routes-are, held-routes, held-protected, held-faults}
 
 -- columns that hold good records, the last of this kind: those that are lent, with some others
 pub record Ready (last : ℕ) (columns : Config → Config) (starts : List ℕ → List ℕ) : Type 0 where
@@ -57,30 +61,38 @@ module _ {rs : List Record} {kind : ℕ} {b : List ℕ} {n : ℕ} (told : n ≡ 
 -- ---- what the check of each kind told, of columns that hold records
 
 module _ {rs : List Record} {c : Config} {states : List ℕ} (h : Held rs c states) {last : ℕ} (l : last ≡ lastKind rs) {n : ℕ} (b : List ℕ) where
-  pub told-1 : ((t : Tables) → n ≡ refusalAfter last [] t 1 b) → n ≡ wholeRefusal rs 1 b
-  told-1 e = e (tablesOfRecords rs) ∙ rw l
+  pub told-one : (K : ℕ) → isSingle (kindOf K) ≡ true → ((t : Tables) → c .numbers .settings ≡ t .settings → n ≡ refusalAfter last [] t K b) → n ≡ wholeRefusal rs K b
+  told-one K s e = e (tablesOfRecords rs) (settings-are h) ∙ rw (l, s)
 
-  pub told-2 : ((t : Tables) → c .numbers .base ≡ t .base → n ≡ refusalAfter last (take (c .numbers .nroutes) (c .routeids)) t 2 b) → n ≡ wholeRefusal rs 2 b
-  told-2 e = e (tablesOfRecords rs) (base-is h) ∙ rw (l, held-routes h)
+  pub told-2 : ((t : Tables) → c .numbers .settings .base ≡ t .settings .base → n ≡ refusalAfter last (take (c .numbers .nroutes) (c .routeids)) t 2 b) → n ≡ wholeRefusal rs 2 b
+  told-2 e = e (tablesOfRecords rs) (ap (λ (s : Settings). s .base) (settings-are h)) ∙ rw (l, held-routes h)
 
-  pub told-3 : ((t : Tables) → Holds t (c .numbers .base) (take (c .numbers .nroutes) (c .routeids))
+  pub told-3 : ((t : Tables) → Holds t (c .numbers .settings .base) (take (c .numbers .nroutes) (c .routeids))
       → n ≡ refusalAfter last (take (c .numbers .nprotected) (c .protected)) t 3 b) → n ≡ wholeRefusal rs 3 b
-  told-3 e = e (tablesOfRecords rs) (record { base-is = base-is h; routes-are = routes-are h }) ∙ rw (l, held-protected h)
+  told-3 e = e (tablesOfRecords rs) (record { base-is = ap (λ (s : Settings). s .base) (settings-are h); routes-are = routes-are h }) ∙ rw (l, held-protected h)
 
   pub told-4 : ((t : Tables) → take (c .numbers .nroutes) (c .routeids) ≡ routed t
       → n ≡ refusalAfter last (take (c .numbers .nrows) (c .faultids)) t 4 b) → n ≡ wholeRefusal rs 4 b
   told-4 e = e (tablesOfRecords rs) (routes-are h) ∙ rw (l, held-faults h)
 
+-- of a single kind nothing is stored: it is in the numbers
+pub one-takes : (K : ℕ) {last n : ℕ} {b : List ℕ} {c : Config} {states : List ℕ} → isSingle (kindOf K) ≡ true
+    → ((t : Tables) → c .numbers .settings ≡ t .settings → n ≡ refusalAfter last [] t K b) → Takes last K b c states n (withNumbers c (numbersBehind K b (c .numbers))) states
+one-takes K {b = b} s e rs h l =
+    let told = told-one h l b K s e in
+    record { refusal-is = told; holds = λ z place. held-one h (good-whole told z place) s }
+
 -- there is no such kind
-pub no-such-kind : {c d : Config} {states ss : List ℕ} {last : ℕ} (kind : ℕ) (b : List ℕ) → (kind < 1) ⊎ (lastOfKinds < kind) → Takes last kind b c states 2 d ss
-no-such-kind kind b (inl l) rs h q = refuses-it (verdict-only (no-kind l)) (λ z. omega arith)
-no-such-kind kind b (inr l) rs h q = refuses-it (verdict-only (past-kinds l)) (λ z. omega arith)
+pub no-such-kind : {c d : Config} {states ss : List ℕ} {last : ℕ} (kind : ℕ) (b : List ℕ) → ((1 ≤ kind) × (kind ≤ lastOfKinds) → ⊥) → Takes last kind b c states 2 d ss
+no-such-kind kind b n rs h q =
+    let Two : Type 0 = 2 ≡ wholeRefusal rs kind b in
+    refuses-it
+    (split Two (leb 1 kind)
+    (λ l. split Two (leb kind lastOfKinds) (λ m. absurd (n (leb-true _ _ l, leb-true _ _ m))) (λ m. verdict-only (past-kinds (leb-false _ _ m))))
+    (λ l. verdict-only (no-kind (leb-false _ _ l))))
+    (λ z. omega arith)
 
--- a kind is taken by its own function
-pub of-kind : (K : ℕ) {kind : ℕ} {last n : ℕ} {b : List ℕ} {c d : Config} {states ss : List ℕ} → kind ≡ K → Takes last K b c states n d ss → Takes last kind b c states n d ss
-of-kind K e t = rw e t
-
--- which is lent some of the columns, beside the others
+-- a function of a kind is lent some of the columns, beside the others
 pub lends : {last : ℕ} {columns : Config → Config} {starts : List ℕ → List ℕ} (c : Config) (states : List ℕ) → Ready last (λ d. c) (λ s. states) → columns c ≡ c → starts states ≡ states
     → Ready last columns starts
 lends c states r e f = record { others = c; other-starts = states; before = r .before; held = rw (e, f) (r .held); last-is = r .last-is }

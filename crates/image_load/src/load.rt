@@ -1,23 +1,25 @@
 // Loading: one pass over the image, record by record, into arrays that stay where they are.
 ghost use mathlib.Core.Path.{_≡_};
 ghost use Rattle.state.specs.Tables.{empty, configFrom, configOf, firstRun};
+ghost use mathlib.Core.List.{[]};
+ghost use Rattle.image_rules.specs.Written.{settingsOfRecords};
 ghost use Rattle.image_load.specs.Image.{refused, loadOf};
-ghost use Rattle.image_load.specs.LoadWalk.{noNumbers, Blank, Reads};
+ghost use Rattle.image_load.specs.LoadWalk.{noRows, Blank, Reads};
 use crate::take;
 use crate::types::Loaded;
 use image_rules::record;
 use state::types::Config;
 use state::types::Numbers;
+use state::types::Settings;
 use state::types::first_run;
+use state::types::no_settings;
 
-// No sources, no rows.
-fn no_numbers() -> Numbers
-    ensures { λ r. ⌜ r ≡ noNumbers ⌝ }
+// These settings, and no rows.
+fn no_rows(settings: Settings) -> Numbers
+    ensures { λ r. ⌜ r ≡ noRows settings ⌝ }
 {
     Numbers {
-        ground: 0,
-        fault: 0,
-        base: 0,
+        settings,
         nroutes: 0,
         nprotected: 0,
         nrows: 0,
@@ -29,7 +31,7 @@ fn blank() -> Config
     ensures { λ r. ⌜ r ≡ configOf empty ⌝ }
 {
     Config {
-        numbers: no_numbers(),
+        numbers: no_rows(no_settings()),
         routeids: [0; 128],
         dests: [0; 128],
         protected: [0; 32],
@@ -97,13 +99,13 @@ fn read_records(
     states: &mut [u8; 32],
 ) -> Reading
     requires { ⌜ Blank
-        (configFrom noNumbers (now routeids) (now dests) (now protected) (now faultids) (now responses) (now latching) (now argcounts) (now args))
-        (now states) ⌝ }
+        (configFrom (noRows (settingsOfRecords [])) (now routeids) (now dests) (now protected) (now faultids) (now responses)
+        (now latching) (now argcounts) (now args)) (now states) ⌝ }
     ensures { λ r. ⌜ Reads (now (image .entry)) (r .refusal) (r .offset)
         (configFrom (r .numbers) (now (routeids .exit)) (now (dests .exit)) (now (protected .exit)) (now (faultids .exit))
         (now (responses .exit)) (now (latching .exit)) (now (argcounts .exit)) (now (args .exit))) (now (states .exit)) ⌝ }
 {
-    let mut numbers = no_numbers();
+    let mut numbers = no_rows(image_check::first_settings());
     if image.len() == 0 {
         return stopped(5, 0, numbers);
     }
@@ -117,7 +119,7 @@ fn read_records(
         let end = found.end;
         let kind = found.kind;
         let from = at + 4;
-        let taken = take::take_record(
+        let refused = take::take_record(
             last,
             kind,
             &image[from..end],
@@ -132,10 +134,10 @@ fn read_records(
             args,
             states,
         );
-        if taken.refusal != 0 {
-            return stopped(taken.refusal, at, numbers);
+        if refused != 0 {
+            return stopped(refused, at, numbers);
         }
-        numbers = taken.numbers;
+        numbers = take::numbers_behind(numbers, kind, &image[from..end]);
         last = kind;
         at = end;
     }

@@ -9,7 +9,7 @@ use Rattle.state.specs.Tables.{Tables}
 use Rattle.state.specs.Rules.{floor}
 use Rattle.image_rules.specs.Records.{Record}
 use Rattle.image_rules.specs.Written.{rowId, tablesOfRecords}
-use Rattle.image_rules.specs.Kinds.{Kind, lastOfKinds, kindOf, idsIn}
+use Rattle.image_rules.specs.Kinds.{Kind, isSingle, sized, limit, rule, lastOfKinds, kindOf, idsIn}
 
 -- the kind of the last record, 0 where there is none
 abbrev pub lastFrom : ℕ → List Record → ℕ
@@ -30,11 +30,11 @@ inOrder single last kind = cond (eqb last 0) (eqb kind 1) (follows single last k
 -- by its kind: its size; the order of kinds; its id, which is above those of the rows before it; the room for it; the other rules
 unfoldable pub refusalBy : Kind → ℕ → ℕ → List ℕ → Tables → List ℕ → ℕ
 refusalBy k last kind ids t b =
-    check (k .sized b) 3
-    (check (inOrder (k .single) last kind) 4
+    check (sized k b) 3
+    (check (inOrder (isSingle k) last kind) 4
     (check (leb (floor ids) (rowId b)) 4
-    (check (ltb (length ids) (k .limit)) 6
-    (check (k .rule t b) 7 0))))
+    (check (ltb (length ids) (limit k)) 6
+    (check (rule k kind t b) 7 0))))
 
 -- behind a record of the kind last, rows of its kind with these ids, and these tables
 unfoldable pub refusalAfter : ℕ → List ℕ → Tables → ℕ → List ℕ → ℕ

@@ -8,18 +8,19 @@ use Prim.Native.Nat.{ℕ, suc, _+_, _≤_}
 use native.Mathlib.Omega.{arith}
 use lib.Dec.{eqb}
 use lib.ListN.{length, length-append, length-map}
-use borrow.Author.Tests.{eqb-true}
+use borrow.Author.Tests.{ne-eqb, eqb-true}
+use Rattle.state.specs.Settings.{SettingsOk}
 use Rattle.state.specs.Tables.{Route, FaultRow, Tables, routeId, faultId, routed}
 use Rattle.state.specs.Rules.{floorFrom}
-use Rattle.state.specs.Keeps.{Own, BasicsOk, RouteOk, ProtectedOk, RowOk, Rising, Each, Rules}
+use Rattle.state.specs.Keeps.{Own, RouteOk, ProtectedOk, RowOk, Rising, Each, Rules}
 use Rattle.state.specs.KeepsLaws.{Few, split}
 use Rattle.state.specs.ArrayLaws.{each-map, rules-few}
 use Rattle.image_rules.specs.Records.{Record}
 use Rattle.image_rules.specs.Written.{rowId, routeIn, protectedIn, rowIn, startIn, tablesOfRecords, startsOfRecords, plus}
-use Rattle.image_rules.specs.Kinds.{lastOfKinds, kindOf, idsIn}
-use Rattle.image_rules.specs.KindRules.{basics-says, route-says, protected-says, row-says}
+use Rattle.image_rules.specs.Kinds.{isSingle, sized, limit, rule, basics, lastOfKinds, kindOf, idsIn}
+use Rattle.image_rules.specs.KindRules.{single-says, route-says, protected-says, row-says}
 use Rattle.image_rules.specs.Checks.{lastKind}
-use Rattle.image_rules.specs.RecordLaws.{by-kind, last-snoc, more, starts-more, ids-more, route-ids, protected-ids, fault-ids}
+use Rattle.image_rules.specs.RecordLaws.{by-kind, not-rows, last-snoc, more, starts-more, ids-more, route-ids, protected-ids, fault-ids}
 use Rattle.image_rules.specs.RecordOutcome.{Follows, Order, begins, goes-on, GoodAfter, AllGood}
 use Rattle.image_rules.specs.Good.{GoodRecord, Ascending, InOrder, basics-first}
 
@@ -34,14 +35,14 @@ module _ {before : List Record} {r : Record} (g : GoodAfter before r) where
   first-kind : lastKind before ≡ 0 → r .kind ≡ 1
   first-kind z = go (g .rest .shaped .order)
     where
-      go : Order (kindOf (r .kind) .single) (lastKind before) (r .kind) → r .kind ≡ 1
+      go : Order (isSingle (kindOf (r .kind))) (lastKind before) (r .kind) → r .kind ≡ 1
       go (begins z₁ k) = k
       go (goes-on h f) = absurd (h z)
 
-  later-kind : (lastKind before ≡ 0 → ⊥) → Follows (kindOf (r .kind) .single) (lastKind before) (r .kind)
+  later-kind : (lastKind before ≡ 0 → ⊥) → Follows (isSingle (kindOf (r .kind))) (lastKind before) (r .kind)
   later-kind h = go (g .rest .shaped .order)
     where
-      go : Order (kindOf (r .kind) .single) (lastKind before) (r .kind) → Follows (kindOf (r .kind) .single) (lastKind before) (r .kind)
+      go : Order (isSingle (kindOf (r .kind))) (lastKind before) (r .kind) → Follows (isSingle (kindOf (r .kind))) (lastKind before) (r .kind)
       go (begins z k) = absurd (h z)
       go (goes-on z f) = f
 
@@ -67,7 +68,7 @@ ascending before (r ∷ rs) h a =
 
 pub record Listed (kind : ℕ) (rs : List Record) : Type 0 where
   pub rise : Rising 0 (idsIn kind rs)
-  pub few : length (idsIn kind rs) ≤ kindOf kind .limit
+  pub few : length (idsIn kind rs) ≤ limit (kindOf kind)
 
 rising-snoc : (low : ℕ) (xs : List ℕ) (x : ℕ) → Rising low xs → floorFrom low xs ≤ x → Rising low (xs ++ x ∷ [])
 rising-snoc low [] x h l = (l, tt)
@@ -76,13 +77,13 @@ rising-snoc low (y ∷ xs) x h l = (h .0, rising-snoc (suc y) xs x (h .1) l)
 module _ (kind : ℕ) where
   none-listed : Listed kind []
   none-listed =
-      split (Listed kind []) (kindOf kind .single)
+      split (Listed kind []) (isSingle (kindOf kind))
       (λ e. record { rise = rw e tt; few = rw e (omega arith) })
       (λ e. record { rise = rw e tt; few = rw e (omega arith) })
 
   listed-more : (before : List Record) (r : Record) → Listed kind before → GoodAfter before r → Listed kind (before ++ r ∷ [])
   listed-more before r h g =
-      split (Listed kind (before ++ r ∷ [])) (kindOf kind .single)
+      split (Listed kind (before ++ r ∷ [])) (isSingle (kindOf kind))
       (λ e. record { rise = rw e tt; few = rw e (omega arith) })
       (λ e. split (Listed kind (before ++ r ∷ [])) (eqb (r .kind) kind)
       (λ q. let k = eqb-true (r .kind) kind q in
@@ -112,7 +113,7 @@ record RowsKept (base : ℕ) (routes : List Route) (protected : List ℕ) (rows 
   rows-ok : Each (RowOk (map routeId routes)) rows
 
 abbrev KeptBy : Tables → Type 0
-KeptBy t = BasicsOk (t .ground) (t .fault) (t .base) × RowsKept (t .base) (t .routes) (t .protected) (t .rows)
+KeptBy t = SettingsOk (t .settings) × RowsKept (t .settings .base) (t .routes) (t .protected) (t .rows)
 
 pub each-snoc : {A : Type 0} (P : A → Type 0) (xs : List A) (x : A) → Each P xs → P x → Each P (xs ++ x ∷ [])
 each-snoc P [] x h p = (p, tt)
@@ -132,26 +133,26 @@ more-row js r k =
 
 -- a record more, by its kind
 module _ (t : Tables) (b : List ℕ) (kept : KeptBy t) where
-  abbrev k : RowsKept (t .base) (t .routes) (t .protected) (t .rows)
+  abbrev k : RowsKept (t .settings .base) (t .routes) (t .protected) (t .rows)
   k = kept .1
 
-  route-more : RouteOk (t .base) (routeIn b) → KeptBy (plus t 2 b)
+  route-more : RouteOk (t .settings .base) (routeIn b) → KeptBy (plus t 2 b)
   route-more ok =
       let more = map-append routeId (t .routes) in (
         kept .0,
         record {
-          routes-ok = each-snoc (RouteOk (t .base)) (t .routes) (routeIn b) (k .routes-ok) ok;
+          routes-ok = each-snoc (RouteOk (t .settings .base)) (t .routes) (routeIn b) (k .routes-ok) ok;
           protected-ok = rw more (each-map (more-protected (rowId b ∷ [])) (t .protected) (k .protected-ok));
           rows-ok = rw more (each-map (more-row (rowId b ∷ [])) (t .rows) (k .rows-ok));
         },
       )
 
-  protected-more : ProtectedOk (t .base) (routed t) (protectedIn b) → KeptBy (plus t 3 b)
+  protected-more : ProtectedOk (t .settings .base) (routed t) (protectedIn b) → KeptBy (plus t 3 b)
   protected-more ok = (
     kept .0,
     record {
       routes-ok = k .routes-ok;
-      protected-ok = each-snoc (ProtectedOk (t .base) (routed t)) (t .protected) (protectedIn b) (k .protected-ok) ok;
+      protected-ok = each-snoc (ProtectedOk (t .settings .base) (routed t)) (t .protected) (protectedIn b) (k .protected-ok) ok;
       rows-ok = k .rows-ok;
     },
   )
@@ -168,12 +169,19 @@ module _ (t : Tables) (b : List ℕ) (kept : KeptBy t) where
 
   -- that such a record keeps the rules too
   abbrev Keeps : ℕ → Type 0
-  Keeps kind = (kind ≡ 1 → ⊥) → kindOf kind .sized b ≡ true → kindOf kind .rule t b ≡ true → KeptBy (plus t kind b)
+  Keeps kind = (kind ≡ 1 → ⊥) → sized (kindOf kind) b ≡ true → rule (kindOf kind) kind t b ≡ true → KeptBy (plus t kind b)
+
+  -- of a single kind, behind the first record: no rows, and not own base
+  single-more : (kind : ℕ) → isSingle (kindOf kind) ≡ true → Keeps kind
+  single-more kind s n f e = (
+    single-says (kindOf kind) kind t b s e,
+    rw (ne-eqb kind 1 n, not-rows kind 2 s refl, not-rows kind 3 s refl, not-rows kind 4 s refl) k,
+  )
 
   kept-more : (kind : ℕ) → 1 ≤ kind → kind ≤ lastOfKinds → Keeps kind
   kept-more =
-      by-kind Keeps
-      (λ n. absurd (n refl), (λ n f e. route-more (route-says t b e), (λ n f e. protected-more (protected-says t b e), (λ n f e. row-more (row-says t b f e .0), tt))))
+      by-kind Keeps single-more
+      (λ n f e. route-more (route-says t b e), (λ n f e. protected-more (protected-says t b e), (λ n f e. row-more (row-says t b f e .0), tt)))
 
 all-kept : (before rs : List Record) → (lastKind before ≡ 0 → ⊥) → KeptBy (tablesOfRecords before) → AllGood before rs → KeptBy (tablesOfRecords (before ++ rs))
 all-kept before [] h k a = rw (append-nil before) k
@@ -190,7 +198,7 @@ first-kept : (r : Record) → GoodAfter [] r → KeptBy (tablesOfRecords (r ∷ 
 unfolding tablesOfRecords
 first-kept r g =
     let k = first-kind g refl in
-    simp k (basics-says (tablesOfRecords []) (r .body) (rw k at (g .rest .kept)), record { routes-ok = tt; protected-ok = tt; rows-ok = tt })
+    simp k (single-says basics 1 (tablesOfRecords []) (r .body) refl (rw k at (g .rest .kept)), record { routes-ok = tt; protected-ok = tt; rows-ok = tt })
 
 all-starts : (before rs : List Record) → Each (λ s. s ≤ 1) (startsOfRecords before) → AllGood before rs → Each (λ s. s ≤ 1) (startsOfRecords (before ++ rs))
 all-starts before [] s a = rw (append-nil before) s
@@ -223,7 +231,7 @@ all-tables (r ∷ rs) h a =
     let protected = all-listed 3 (r ∷ rs) a in
     let faults = all-listed 4 (r ∷ rs) a in
     record {
-      basics = kept .0;
+      settings-ok = kept .0;
       few-routes = rw (route-ids (r ∷ rs), length-map (t .routes) routeId) at (routes .few);
       routes-rise = rw (route-ids (r ∷ rs)) at (routes .rise);
       routes-ok = kept .1 .routes-ok;

@@ -1,17 +1,17 @@
 -- Laws of records and of the tables that they write: the record at a place, the records from a place on, and a record more.
-use mathlib.Core.Path.{_≡_, refl, ap, _∙_}
+use mathlib.Core.Path.{_≡_, refl, sym, ap, _∙_}
 use mathlib.Core.Bool.{Bool, true, false, cond, false≢true}
 use mathlib.Core.List.{List, [], _∷_, _++_, map, map-append, append-nil}
 use Prim.Native.Nat.{ℕ, zero, suc, _+_, _-_, _<_, _≤_}
 use native.Mathlib.Omega.{arith}
 use lib.Dec.{eqb}
-use lib.ListN.{length, take, drop, length-map, length-take, length-drop}
-use borrow.Author.Tests.{le-leb, lt-leb, eqb-true, eqb-false}
+use lib.ListN.{length, getD, take, drop, length-map, length-take, length-drop}
+use borrow.Author.Tests.{le-leb, lt-leb, ne-eqb, eqb-true, eqb-false}
 use Rattle.state.specs.Tables.{routeId, faultId, routed}
 use Rattle.state.specs.KeepsLaws.{split}
 use Rattle.image_rules.specs.Records.{le16, Record, cut, recordAt, andThen, recordsFrom}
 use Rattle.image_rules.specs.Written.{ofKind, lastOr, valueIn, groundIn, faultIn, baseIn, rowId, routeIn, protectedIn, rowIn, startIn, tablesOfRecords, startsOfRecords, plus}
-use Rattle.image_rules.specs.Kinds.{Kind, kinds, lastOfKinds, kindOf, idsIn}
+use Rattle.image_rules.specs.Kinds.{Kind, one, rows, isSingle, basics, kinds, lastOfKinds, kindOf, idsIn}
 use Rattle.image_rules.specs.Checks.{lastFrom}
 
 -- ---- the record at a place
@@ -62,26 +62,41 @@ none-from (suc f) bs place l = simp (le-leb (length bs) place l)
 
 -- ---- the kinds of the table, one after the other
 
--- of the kinds from n on
-abbrev pub From : (ℕ → Type 0) → ℕ → List Kind → Type 0
-From P n [] = Unit {0}
-From P n (k ∷ ks) = P n × From P (suc n) ks
+-- of the kinds of rows from n on
+abbrev pub RowsFrom : (ℕ → Type 0) → ℕ → List Kind → Type 0
+RowsFrom P n [] = Unit {0}
+RowsFrom P n (one size ∷ ks) = RowsFrom P (suc n) ks
+RowsFrom P n (rows most fits keeps ∷ ks) = P n × RowsFrom P (suc n) ks
 
-each-from : (P : ℕ → Type 0) (n : ℕ) (ks : List Kind) → From P n ks → (kind : ℕ) → n ≤ kind → kind < n + length ks → P kind
-each-from P n [] f kind l h = absurd (omega arith)
-each-from P n (k ∷ ks) f kind l h =
+-- of the single kinds from n on
+abbrev Singles : (ℕ → Type 0) → ℕ → List Kind → Type 0
+Singles P n ks = (kind : ℕ) → n ≤ kind → isSingle (getD ks (kind - n) basics) ≡ true → P kind
+
+each-from : (P : ℕ → Type 0) (n : ℕ) (ks : List Kind) → Singles P n ks → RowsFrom P n ks → (kind : ℕ) → n ≤ kind → kind < n + length ks → P kind
+each-from P n [] s f kind l h = absurd (omega arith)
+each-from P n (k ∷ ks) s f kind l h =
     split (P kind) (eqb kind n)
-    (λ e. rw (eqb-true kind n e) (f .0))
-    (λ e. let q = eqb-false kind n e in each-from P (suc n) ks (f .1) kind (omega arith) (omega arith))
+    (λ e. rw (eqb-true kind n e) (here k s f))
+    (λ e. let q = eqb-false kind n e in each-from P (suc n) ks later (behind k f) kind (omega arith) (omega arith))
+  where
+    here : (k : Kind) → Singles P n (k ∷ ks) → RowsFrom P n (k ∷ ks) → P n
+    here (one size) s f = let z : n - n ≡ 0 = omega arith in s n (omega arith) (rw z refl)
+    here (rows most fits keeps) s f = f .0
 
--- what holds of each kind of the table
-pub by-kind : (P : ℕ → Type 0) → From P 1 kinds → (kind : ℕ) → 1 ≤ kind → kind ≤ lastOfKinds → P kind
-by-kind P f kind l h = each-from P 1 kinds f kind l (omega arith)
+    behind : (k : Kind) → RowsFrom P n (k ∷ ks) → RowsFrom P (suc n) ks
+    behind (one size) f = f
+    behind (rows most fits keeps) f = f .1
 
--- there is room for one of a single kind
-pub one-room : (kind : ℕ) → 1 ≤ kind → kind ≤ lastOfKinds → kindOf kind .single ≡ true → 0 < kindOf kind .limit
-one-room =
-    by-kind (λ kind. kindOf kind .single ≡ true → 0 < kindOf kind .limit) (λ e. omega arith, (λ e. absurd (false≢true e), (λ e. absurd (false≢true e), (λ e. absurd (false≢true e), tt))))
+    later : Singles P (suc n) ks
+    later kind l e = let z : kind - n ≡ suc (kind - suc n) = omega arith in s kind (omega arith) (rw z e)
+
+-- what holds of every single kind, and of each kind of rows of the table
+pub by-kind : (P : ℕ → Type 0) → ((kind : ℕ) → isSingle (kindOf kind) ≡ true → P kind) → RowsFrom P 1 kinds → (kind : ℕ) → 1 ≤ kind → kind ≤ lastOfKinds → P kind
+by-kind P s f kind l h = each-from P 1 kinds (λ kind l e. s kind e) f kind l (omega arith)
+
+-- a single kind is none of rows
+pub not-rows : (kind K : ℕ) → isSingle (kindOf kind) ≡ true → isSingle (kindOf K) ≡ false → eqb kind K ≡ false
+not-rows kind K s r = ne-eqb kind K (λ e. false≢true (sym r ∙ rw e at s))
 
 -- ---- records of a kind, and the last kind
 
@@ -137,7 +152,7 @@ module _ (rs : List Record) (r : Record) where
   starts-more = rows-more 4 startIn rs r
 
 -- the ids of a kind of rows
-pub ids-more : (kind : ℕ) (rs : List Record) (r : Record) → kindOf kind .single ≡ false
+pub ids-more : (kind : ℕ) (rs : List Record) (r : Record) → isSingle (kindOf kind) ≡ false
     → idsIn kind (rs ++ r ∷ []) ≡ cond (eqb (r .kind) kind) (idsIn kind rs ++ rowId (r .body) ∷ []) (idsIn kind rs)
 ids-more kind rs r e = rw e (rows-more kind rowId rs r)
 

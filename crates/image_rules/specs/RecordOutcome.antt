@@ -9,7 +9,7 @@ use Rattle.state.specs.Tables.{Tables}
 use Rattle.state.specs.Rules.{floor}
 use Rattle.image_rules.specs.Records.{Record}
 use Rattle.image_rules.specs.Written.{rowId, tablesOfRecords}
-use Rattle.image_rules.specs.Kinds.{lastOfKinds, kindOf, idsIn}
+use Rattle.image_rules.specs.Kinds.{isSingle, sized, limit, rule, lastOfKinds, kindOf, idsIn}
 use Rattle.image_rules.specs.Checks.{lastKind}
 
 -- kinds never fall, and of a single kind there is no second
@@ -31,25 +31,25 @@ pub data BadOrder (single : Bool) (last kind : ℕ) : Type 0 where
 pub record Shaped (last kind : ℕ) (b : List ℕ) : Type 0 where
   pub kind-low : 1 ≤ kind
   pub kind-high : kind ≤ lastOfKinds
-  pub fits : kindOf kind .sized b ≡ true
-  pub order : Order (kindOf kind .single) last kind
+  pub fits : sized (kindOf kind) b ≡ true
+  pub order : Order (isSingle (kindOf kind)) last kind
 
 -- a record that nothing refuses, behind rows of its kind with these ids
 pub record Fine (last : ℕ) (ids : List ℕ) (t : Tables) (kind : ℕ) (b : List ℕ) : Type 0 where
   pub shaped : Shaped last kind b
   pub above : floor ids ≤ rowId b
-  pub room : length ids < kindOf kind .limit
-  pub kept : kindOf kind .rule t b ≡ true
+  pub room : length ids < limit (kindOf kind)
+  pub kept : rule (kindOf kind) kind t b ≡ true
 
 -- of a whole record: its own condition fails, and those of the numbers before hold
 pub data Verdict (last : ℕ) (ids : List ℕ) (t : Tables) (kind : ℕ) (b : List ℕ) : ℕ → Type 0 where
   no-kind : kind < 1 → Verdict last ids t kind b 2
   past-kinds : lastOfKinds < kind → Verdict last ids t kind b 2
-  missized : 1 ≤ kind → kind ≤ lastOfKinds → kindOf kind .sized b ≡ false → Verdict last ids t kind b 3
-  out-of-order : 1 ≤ kind → kind ≤ lastOfKinds → kindOf kind .sized b ≡ true → BadOrder (kindOf kind .single) last kind → Verdict last ids t kind b 4
+  missized : 1 ≤ kind → kind ≤ lastOfKinds → sized (kindOf kind) b ≡ false → Verdict last ids t kind b 3
+  out-of-order : 1 ≤ kind → kind ≤ lastOfKinds → sized (kindOf kind) b ≡ true → BadOrder (isSingle (kindOf kind)) last kind → Verdict last ids t kind b 4
   not-above : Shaped last kind b → rowId b < floor ids → Verdict last ids t kind b 4
-  too-many : Shaped last kind b → floor ids ≤ rowId b → kindOf kind .limit ≤ length ids → Verdict last ids t kind b 6
-  rule-broken : Shaped last kind b → floor ids ≤ rowId b → length ids < kindOf kind .limit → kindOf kind .rule t b ≡ false → Verdict last ids t kind b 7
+  too-many : Shaped last kind b → floor ids ≤ rowId b → limit (kindOf kind) ≤ length ids → Verdict last ids t kind b 6
+  rule-broken : Shaped last kind b → floor ids ≤ rowId b → length ids < limit (kindOf kind) → rule (kindOf kind) kind t b ≡ false → Verdict last ids t kind b 7
   fine : Fine last ids t kind b → Verdict last ids t kind b 0
 
 -- of a record behind those before it

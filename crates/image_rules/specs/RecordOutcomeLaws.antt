@@ -14,7 +14,7 @@ use Rattle.state.specs.Rules.{floor}
 use Rattle.state.specs.KeepsLaws.{split, both}
 use Rattle.image_rules.specs.Records.{Record}
 use Rattle.image_rules.specs.Written.{rowId, tablesOfRecords}
-use Rattle.image_rules.specs.Kinds.{Kind, lastOfKinds, kindOf, idsIn}
+use Rattle.image_rules.specs.Kinds.{Kind, isSingle, sized, limit, rule, lastOfKinds, kindOf, idsIn}
 use Rattle.image_rules.specs.Checks.{lastKind, follows, inOrder, refusalBy, refusalAfter, recordRefusal}
 use Rattle.image_rules.specs.RecordOutcome.{Follows, Order, begins, goes-on, BadOrder, first-not-basics, second, falls, Shaped, Verdict, no-kind, past-kinds, missized, out-of-order, not-above, too-many, rule-broken, fine, Outcome, is-cut, is-whole, GoodAfter}
 
@@ -70,11 +70,11 @@ module _ (last : ℕ) (ids : List ℕ) (t : Tables) (kind : ℕ) (b : List ℕ) 
   abbrev k : Kind
   k = kindOf kind
 
-  by-rows : Shaped last kind b → Says (check (leb (floor ids) (rowId b)) 4 (check (ltb (length ids) (k .limit)) 6 (check (k .rule t b) 7 0)))
+  by-rows : Shaped last kind b → Says (check (leb (floor ids) (rowId b)) 4 (check (ltb (length ids) (limit k)) 6 (check (rule k kind t b) 7 0)))
   by-rows s =
       by Says (leb (floor ids) (rowId b)) 4 _ (λ e. not-above s (leb-false _ _ e))
-      (λ above. by Says (ltb (length ids) (k .limit)) 6 _ (λ e. too-many s (leb-true _ _ above) (ltb-false _ _ e))
-      (λ room. by Says (k .rule t b) 7 0 (rule-broken s (leb-true _ _ above) (ltb-true _ _ room))
+      (λ above. by Says (ltb (length ids) (limit k)) 6 _ (λ e. too-many s (leb-true _ _ above) (ltb-false _ _ e))
+      (λ room. by Says (rule k kind t b) 7 0 (rule-broken s (leb-true _ _ above) (ltb-true _ _ room))
       (λ ok. fine (record { shaped = s; above = leb-true _ _ above; room = ltb-true _ _ room; kept = ok }))))
 
   pub verdict : Says (refusalAfter last ids t kind b)
@@ -85,8 +85,8 @@ module _ (last : ℕ) (ids : List ℕ) (t : Tables) (kind : ℕ) (b : List ℕ) 
       (λ known. let p = both (leb 1 kind) _ known in
       let low = leb-true 1 kind (p .0) in
       let high = leb-true kind lastOfKinds (p .1) in
-      by Says (k .sized b) 3 _ (missized low high)
-      (λ fits. by Says (inOrder (k .single) last kind) 4 _ (λ e. out-of-order low high fits (not-in-order e))
+      by Says (sized k b) 3 _ (missized low high)
+      (λ fits. by Says (inOrder (isSingle k) last kind) 4 _ (λ e. out-of-order low high fits (not-in-order e))
       (λ order. by-rows (record { kind-low = low; kind-high = high; fits = fits; order = in-order order }))))
 
   -- a kind of the table is judged by its entry
@@ -96,7 +96,7 @@ module _ (last : ℕ) (ids : List ℕ) (t : Tables) (kind : ℕ) (b : List ℕ) 
 
   past-shape : Shaped last kind b
       → refusalAfter last ids t kind b
-      ≡ check (leb (floor ids) (rowId b)) 4 (check (ltb (length ids) (kindOf kind .limit)) 6 (check (kindOf kind .rule t b) 7 0))
+      ≡ check (leb (floor ids) (rowId b)) 4 (check (ltb (length ids) (limit (kindOf kind))) 6 (check (rule (kindOf kind) kind t b) 7 0))
   unfolding refusalBy
   past-shape s = by-entry (s .kind-low) (s .kind-high) ∙ simp (s .fits, order-is (s .order))
 

@@ -1,27 +1,31 @@
--- Laws for the loader's parts: the end of a record, and each way out of the function of a kind.
-use mathlib.Core.Path.{_≡_, refl, sym, _∙_}
+-- Laws for the loader's parts: the record at a place, and each way out of the function of a kind.
+use mathlib.Core.Path.{_≡_, sym, _∙_}
 use mathlib.Core.Bool.{Bool, true, false, and-false}
 use mathlib.Core.List.{List, []}
 use Prim.Native.Nat.{ℕ, _+_, _≤_, _<_}
 use native.Mathlib.Omega.{arith}
 use lib.Dec.{leb, ltb, eqb}
 use lib.ListN.{length, getD}
-use borrow.Author.Tests.{le-leb, lt-leb, ne-eqb}
+use borrow.Author.Tests.{le-leb, lt-leb, eq-eqb, ne-eqb}
 use Rattle.wire.specs.Check.{check}
+use Rattle.state.specs.Settings.{settingsOk}
 use Rattle.state.specs.Tables.{Tables}
 use Rattle.state.specs.Rules.{floor}
 use Rattle.image_rules.specs.Records.{cut, recordAt}
-use Rattle.image_rules.specs.Written.{rowId}
-use Rattle.image_rules.specs.Kinds.{Kind, lastOfKinds, kindOf, rowSized}
+use Rattle.image_rules.specs.Written.{settingsWith, rowId}
+use Rattle.image_rules.specs.Kinds.{Kind, one, isSingle, sized, limit, rule, lastOfKinds, kindOf, rowSized}
 use Rattle.image_rules.specs.Checks.{inOrder, refusalBy, refusalAfter}
-use Rattle.image_rules.specs.RecordOutcome.{Order, BadOrder}
-use Rattle.image_rules.specs.RecordOutcomeLaws.{order-is, order-is-not, by-entry}
-use Rattle.image_rules.specs.RecordParts.{EndSays, placeRefusal}
+use Rattle.image_rules.specs.RecordLaws.{Whole}
+use Rattle.image_rules.specs.RecordOutcomeLaws.{by-entry}
+use Rattle.image_rules.specs.RecordParts.{FoundAt, placeRefusal}
 
--- ---- the end of a record
+-- ---- the record at a place
 
-pub cut-end : {bs : List ℕ} {place : ℕ} → recordAt bs place ≡ cut place → EndSays bs place 0
-cut-end e = record { is-cut = λ z. e; is-whole = λ h. absurd (h refl) }
+pub none-found : {bs : List ℕ} {place kind end : ℕ} → end ≡ 0 → recordAt bs place ≡ cut place → FoundAt bs place kind end
+none-found z e = record { is-cut = λ q. e; is-whole = λ h. absurd (h z) }
+
+pub one-found : {bs : List ℕ} {place kind end : ℕ} → (end ≡ 0 → ⊥) → Whole bs place kind end → FoundAt bs place kind end
+one-found n w = record { is-cut = λ z. absurd (n z); is-whole = λ h. w }
 
 -- ---- a kind of the table is judged by its entry
 
@@ -30,20 +34,24 @@ pub by-its-entry : (K last : ℕ) (ids : List ℕ) (t : Tables) (b : List ℕ) {
 by-its-entry K last ids t b (l, h) e = e ∙ sym (by-entry last ids t K b l h)
 
 -- of any kind, by its size
-pub missized : (k : Kind) (last kind : ℕ) (ids : List ℕ) (t : Tables) (b : List ℕ) → k .sized b ≡ false → 3 ≡ refusalBy k last kind ids t b
+pub missized : (k : Kind) (last kind : ℕ) (ids : List ℕ) (t : Tables) (b : List ℕ) → sized k b ≡ false → 3 ≡ refusalBy k last kind ids t b
 unfolding refusalBy
 missized k last kind ids t b f = simp f
 
--- ---- a record of a single kind, behind no rows
+-- ---- a record of a single kind
 
-module _ (k : Kind) (last kind : ℕ) (t : Tables) (b : List ℕ) (single : k .single ≡ true) (fits : k .sized b ≡ true) where
-  pub one-misplaced : BadOrder true last kind → 4 ≡ refusalBy k last kind [] t b
-  unfolding refusalBy
-  one-misplaced o = simp (fits, single) (simp (order-is-not o))
+module _ (last kind : ℕ) (t : Tables) (b : List ℕ) where
+  pub by-one : {size r : ℕ} → (1 ≤ kind) × (kind ≤ lastOfKinds) × (kindOf kind ≡ one size) → r ≡ refusalBy (one size) last kind [] t b → r ≡ refusalAfter last [] t kind b
+  by-one (l, h, o) e = by-its-entry kind last [] t b (l, h) (rw o e)
 
-  pub one-judged : k .limit ≡ 1 → Order true last kind → {ok : Bool} {r : ℕ} → ok ≡ k .rule t b → r ≡ check ok 7 0 → r ≡ refusalBy k last kind [] t b
-  unfolding refusalBy
-  one-judged l o q p = p ∙ rw q (simp (fits, single, l, le-leb 0 (rowId b) (omega arith)) (simp (order-is o)))
+  module _ {size : ℕ} (fits : length b ≡ size) where
+    pub one-misplaced : inOrder true last kind ≡ false → 4 ≡ refusalBy (one size) last kind [] t b
+    unfolding refusalBy
+    one-misplaced o = simp (eq-eqb _ _ fits, o)
+
+    pub one-judged : inOrder true last kind ≡ true → {ok : Bool} {r : ℕ} → ok ≡ settingsOk (settingsWith kind b (t .settings)) → r ≡ check ok 7 0 → r ≡ refusalBy (one size) last kind [] t b
+    unfolding refusalBy
+    one-judged o q p = p ∙ rw q (simp (eq-eqb _ _ fits, o, le-leb 0 (rowId b) (omega arith)))
 
 -- ---- a row
 
@@ -59,19 +67,19 @@ passed true true false ok e z g = absurd (omega arith)
 passed true false r ok e z g = absurd (omega arith)
 passed false a r ok e z g = absurd (omega arith)
 
-module _ (k : Kind) (last kind : ℕ) (ids : List ℕ) (t : Tables) (b : List ℕ) (many : k .single ≡ false) (fits : k .sized b ≡ true) {id p : ℕ}
-    (i : id ≡ rowId b) (told : p ≡ placeRefusal last kind (k .limit) ids id) where
+module _ (k : Kind) (last kind : ℕ) (ids : List ℕ) (t : Tables) (b : List ℕ) (many : isSingle k ≡ false) (fits : sized k b ≡ true) {id p : ℕ}
+    (i : id ≡ rowId b) (told : p ≡ placeRefusal last kind (limit k) ids id) where
   pub row-misplaced : (p ≡ 0 → ⊥) → p ≡ refusalBy k last kind ids t b
   unfolding refusalBy placeRefusal
   row-misplaced h =
       simp (fits, many)
-      (stopped (inOrder false last kind) (leb (floor ids) (rowId b)) (ltb (length ids) (k .limit)) (k .rule t b) (rw i at told) h)
+      (stopped (inOrder false last kind) (leb (floor ids) (rowId b)) (ltb (length ids) (limit k)) (rule k kind t b) (rw i at told) h)
 
-  pub row-judged : p ≡ 0 → {ok : Bool} {r : ℕ} → ok ≡ k .rule t b → r ≡ check ok 7 0 → r ≡ refusalBy k last kind ids t b
+  pub row-judged : p ≡ 0 → {ok : Bool} {r : ℕ} → ok ≡ rule k kind t b → r ≡ check ok 7 0 → r ≡ refusalBy k last kind ids t b
   unfolding refusalBy placeRefusal
   row-judged z q e =
       simp (fits, many)
-      (passed (inOrder false last kind) (leb (floor ids) (rowId b)) (ltb (length ids) (k .limit)) (k .rule t b) (rw i at told) z (rw q at e))
+      (passed (inOrder false last kind) (leb (floor ids) (rowId b)) (ltb (length ids) (limit k)) (rule k kind t b) (rw i at told) z (rw q at e))
 
 -- ---- the size of a fault row
 

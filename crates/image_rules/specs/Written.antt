@@ -4,6 +4,7 @@ use mathlib.Core.List.{List, [], _∷_, _++_, map}
 use Prim.Native.Nat.{ℕ}
 use lib.Dec.{eqb}
 use lib.ListN.{getD, take, drop}
+use Rattle.state.specs.declared.types.Settings.{Settings}
 use Rattle.state.specs.Tables.{Route, FaultRow, Tables}
 use Rattle.image_rules.specs.Records.{le16, Record}
 
@@ -55,14 +56,32 @@ rowIn b =
 abbrev pub startIn : List ℕ → ℕ
 startIn b = getD b 4 0
 
+-- ---- the settings
+
+-- what the single records set; the default of a kind that may be missing stands here
+abbrev pub settingsOfRecords : List Record → Settings
+settingsOfRecords rs =
+    record {
+      ground = valueIn 1 groundIn 0 rs;
+      fault = valueIn 1 faultIn 0 rs;
+      base = valueIn 1 baseIn 0 rs;
+    }
+
+-- what a record makes of them
+abbrev pub settingsWith : ℕ → List ℕ → Settings → Settings
+settingsWith kind b s =
+    record {
+      ground = cond (eqb kind 1) (groundIn b) (s .ground);
+      fault = cond (eqb kind 1) (faultIn b) (s .fault);
+      base = cond (eqb kind 1) (baseIn b) (s .base);
+    }
+
 -- ---- the tables
 
 unfoldable pub tablesOfRecords : List Record → Tables
 tablesOfRecords rs =
     record {
-      ground = valueIn 1 groundIn 0 rs;
-      fault = valueIn 1 faultIn 0 rs;
-      base = valueIn 1 baseIn 0 rs;
+      settings = settingsOfRecords rs;
       routes = map routeIn (ofKind 2 rs);
       protected = map protectedIn (ofKind 3 rs);
       rows = map rowIn (ofKind 4 rs);
@@ -75,9 +94,7 @@ startsOfRecords rs = map startIn (ofKind 4 rs)
 abbrev pub plus : Tables → ℕ → List ℕ → Tables
 plus t kind b =
     record {
-      ground = cond (eqb kind 1) (groundIn b) (t .ground);
-      fault = cond (eqb kind 1) (faultIn b) (t .fault);
-      base = cond (eqb kind 1) (baseIn b) (t .base);
+      settings = settingsWith kind b (t .settings);
       routes = cond (eqb kind 2) (t .routes ++ routeIn b ∷ []) (t .routes);
       protected = cond (eqb kind 3) (t .protected ++ protectedIn b ∷ []) (t .protected);
       rows = cond (eqb kind 4) (t .rows ++ rowIn b ∷ []) (t .rows);

@@ -6,7 +6,8 @@ use Prim.Native.Nat.{ℕ}
 use lib.ListN.{replicate, getD}
 use Rattle.wire.specs.Xor.{xorAll}
 use Rattle.packet_rules.specs.Judge.{refusalOf, argumentsOf}
-use Rattle.state.specs.Rules.{own, basicsOk, routeOk, protectedOk, rowOk, startOk}
+use Rattle.state.specs.Settings.{settingsOk}
+use Rattle.state.specs.Rules.{own, routeOk, protectedOk, rowOk, startOk}
 use Rattle.image_rules.specs.Records.{recordAt, recordsOf}
 use Rattle.image_rules.specs.Written.{tablesOfRecords, startsOfRecords}
 use Rattle.image_rules.specs.Kinds.{rowSized}
@@ -106,5 +107,5 @@ table =
     ∷ []
 
 pub marked : map (λ c. said (c .asked)) table ≡ map (λ c. c .wanted) table
-unfolding xorAll refusalOf argumentsOf own basicsOk routeOk protectedOk rowOk startOk recordAt tablesOfRecords startsOfRecords rowSized refusalBy refusalAfter recordRefusal loadOf
+unfolding xorAll refusalOf argumentsOf own settingsOk routeOk protectedOk rowOk startOk recordAt tablesOfRecords startsOfRecords rowSized refusalBy refusalAfter recordRefusal loadOf
 marked = refl

@@ -69,8 +69,8 @@ module _ {s : List ℕ} where
   only (taken a) = sym (past-form (a .sized) (a .formed) ∙ simp (le-leb 4 (dataLength s - pads s) (omega arith), le-leb _ _ (a .few)))
 
 -- accepted is 0, in both directions
-pub accepted : {s : List ℕ} → Accepts s → refusalOf s ≡ 0
-accepted a = sym (only (taken a))
+pub none-refuses : {s : List ℕ} → Accepts s → refusalOf s ≡ 0
+none-refuses a = sym (only (taken a))
 
 pub accepts : (s : List ℕ) → refusalOf s ≡ 0 → Accepts s
 accepts s e = go (outcome s) e
@@ -127,7 +127,7 @@ module _ (s : List ℕ) where
 
   pub arguments-accepted : Accepts s → argumentsOf s ≡ argumentPart s
   unfolding argumentsOf
-  arguments-accepted a = simp (accepted a)
+  arguments-accepted a = simp (none-refuses a)
 
   pub at-refused : (refusalOf s ≡ 0 → ⊥) → argumentsAt s ≡ 0
   unfolding argumentsAt
@@ -135,4 +135,4 @@ module _ (s : List ℕ) where
 
   pub at-accepted : Accepts s → argumentsAt s ≡ 10
   unfolding argumentsAt
-  at-accepted a = simp (accepted a)
+  at-accepted a = simp (none-refuses a)

@@ -1,16 +1,18 @@
 // Replay of a recording: the state is judged once, and each event costs one inner step.
+use image_rules::record;
 use replay_rules::recording;
 use replay_rules::types;
 use replay_rules::types::Piece;
 use replay_rules::types::Reached;
 use replay_rules::types::Replayed;
 use replay_rules::types::reached_at;
-use state::types::Arm;
 use state::types::Config;
-use state::types::Counts;
 use state::types::Numbers;
 use state::types::Run;
+use state::types::Standing;
 use state::types::no_counts;
+use state::types::with_arm;
+use state::types::with_counts;
 use step_effects::counts;
 ghost use mathlib.Core.Path.{_≡_};
 ghost use lib.ListN.{length};
@@ -20,7 +22,7 @@ ghost use Rattle.step_effects.specs.Dispatch.{over};
 ghost use Rattle.replay_rules.specs.Replay.{Replays, Resumes, pieceOf, pieceBytes, replayOf, replayBytes};
 
 // A recording behind a state that keeps its rules, event by event, until a record is bad or less than `EVENT_ROOM` bytes of the output
-// are left. Columns and fault states are lent; arm record and counters go by value and are worked out beside each step. Each arm
+// are left. Columns and fault states are lent; the standing goes by value and is worked out beside each step. Each arm
 // asks what its kind can be refused for and ends with its own turn of the cursors, so that the arms never join and the kind is
 // asked about once.
 // internal: for `lent_resume` and `replay`, which have judged the state.
@@ -34,35 +36,34 @@ pub fn inner_replay<'a>(
     latching: &'a [u8; 32],
     argcounts: &'a [u8; 32],
     args: &'a [u8; 512],
-    arm: Arm,
-    counts: Counts,
+    standing: Standing,
     states: &mut [u8; 32],
     recording: &[u8],
     out: &mut [u8],
 ) -> Reached
     requires { ⌜ LentState (configFrom numbers (now routeids) (now dests) (now protected) (now faultids)
-        (now responses) (now latching) (now argcounts) (now args)) (runFrom arm counts (now states)) ⌝ }
+        (now responses) (now latching) (now argcounts) (now args)) (runFrom standing (now states)) ⌝ }
     ensures { λ r. ⌜ Replays
         (configFrom numbers (now (routeids .entry)) (now (dests .entry)) (now (protected .entry)) (now (faultids .entry))
         (now (responses .entry)) (now (latching .entry)) (now (argcounts .entry)) (now (args .entry)))
-        (runFrom arm counts (now (states .entry))) (now (recording .entry)) (now (out .entry)) r (now (states .exit)) (now (out .exit)) ⌝ }
+        (runFrom standing (now (states .entry))) (now (recording .entry)) (now (out .entry)) r (now (states .exit)) (now (out .exit)) ⌝ }
 {
-    let mut armed = arm;
-    let mut counted = counts;
+    let mut current = standing;
     let mut read = 0;
     let mut count = 0;
     let mut wrote = 0;
     while read < recording.len() {
-        let end = image_rules::record::end_of(recording, read);
-        if end == 0 {
-            return reached_at(armed, counted, recording::CUT_SHORT, read, count, wrote);
+        let found = record::found_at(recording, read);
+        if found.end == 0 {
+            return reached_at(current, recording::CUT_SHORT, read, count, wrote);
         }
-        let kind = image_rules::record::word_at(recording, read + 2);
+        let end = found.end;
+        let kind = found.kind;
         let from = read + 4;
         let body = &recording[from..end];
         if kind == 16 {
             if out.len() - wrote < recording::EVENT_ROOM {
-                return reached_at(armed, counted, recording::OUTPUT_FULL, read, count, wrote);
+                return reached_at(current, recording::OUTPUT_FULL, read, count, wrote);
             }
             let place = wrote + recording::HEAD_SIZE;
             let sent = step_packet::inner_packet(
@@ -71,39 +72,39 @@ pub fn inner_replay<'a>(
                 dests,
                 protected,
                 faultids,
-                armed,
+                current.arm,
                 states,
                 body,
                 &mut out[place..],
             );
             let answer = sent.answer;
             wrote = recording::put_numbers(out, wrote, answer);
-            counted = counts::after_packet(counted, answer.answer, sent.reset);
-            armed = sent.arm;
+            let counted = counts::after_packet(current.counts, answer.answer, sent.reset);
+            current = with_arm(with_counts(current, counted), sent.arm);
             count += 1;
             read = end;
         } else if kind == 17 {
             if body.len() != 0 {
-                return reached_at(armed, counted, recording::WRONG_LENGTH, read, count, wrote);
+                return reached_at(current, recording::WRONG_LENGTH, read, count, wrote);
             }
             if out.len() - wrote < recording::EVENT_ROOM {
-                return reached_at(armed, counted, recording::OUTPUT_FULL, read, count, wrote);
+                return reached_at(current, recording::OUTPUT_FULL, read, count, wrote);
             }
-            let ticked = step_arm::tick_of(armed);
+            let ticked = step_arm::tick_of(current.arm);
             wrote = recording::put_numbers(out, wrote, step_rules::types::bare(ticked.answer));
-            armed = ticked.arm;
+            current = with_arm(current, ticked.arm);
             count += 1;
             read = end;
         } else {
             let refused = recording::refusal(kind, body.len());
             if refused != 0 {
-                return reached_at(armed, counted, refused, read, count, wrote);
+                return reached_at(current, refused, read, count, wrote);
             }
             if out.len() - wrote < recording::EVENT_ROOM {
-                return reached_at(armed, counted, recording::OUTPUT_FULL, read, count, wrote);
+                return reached_at(current, recording::OUTPUT_FULL, read, count, wrote);
             }
             let place = wrote + recording::HEAD_SIZE;
-            let fault = image_rules::record::word_at(body, 0);
+            let fault = record::word_at(body, 0);
             let answer = step_fault::inner_fault(
                 numbers,
                 routeids,
@@ -118,12 +119,13 @@ pub fn inner_replay<'a>(
                 &mut out[place..],
             );
             wrote = recording::put_numbers(out, wrote, answer);
-            counted = counts::after_fault(counted, answer.answer);
+            let counted = counts::after_fault(current.counts, answer.answer);
+            current = with_counts(current, counted);
             count += 1;
             read = end;
         }
     }
-    reached_at(armed, counted, 0, read, count, wrote)
+    reached_at(current, 0, read, count, wrote)
 }
 
 // A piece of a recording behind any state: 20 where the state breaks its rules, which is judged once. A recording may come in
@@ -139,8 +141,7 @@ pub fn lent_resume<'a>(
     latching: &'a [u8; 32],
     argcounts: &'a [u8; 32],
     args: &'a [u8; 512],
-    arm: Arm,
-    counts: Counts,
+    standing: Standing,
     states: &mut [u8; 32],
     recording: &[u8],
     out: &mut [u8],
@@ -148,7 +149,7 @@ pub fn lent_resume<'a>(
     ensures { λ r. ⌜ Resumes
         (configFrom numbers (now (routeids .entry)) (now (dests .entry)) (now (protected .entry)) (now (faultids .entry))
         (now (responses .entry)) (now (latching .entry)) (now (argcounts .entry)) (now (args .entry)))
-        (runFrom arm counts (now (states .entry))) (now (recording .entry)) (now (out .entry)) r (now (states .exit)) (now (out .exit)) ⌝ }
+        (runFrom standing (now (states .entry))) (now (recording .entry)) (now (out .entry)) r (now (states .exit)) (now (out .exit)) ⌝ }
 {
     if !state_check::lent_keeps(
         numbers,
@@ -160,10 +161,10 @@ pub fn lent_resume<'a>(
         latching,
         argcounts,
         args,
-        arm,
+        standing,
         states,
     ) {
-        return reached_at(arm, counts, 20, 0, 0, 0);
+        return reached_at(standing, 20, 0, 0, 0);
     }
     inner_replay(
         numbers,
@@ -175,8 +176,7 @@ pub fn lent_resume<'a>(
         latching,
         argcounts,
         args,
-        arm,
-        counts,
+        standing,
         states,
         recording,
         out,
@@ -188,8 +188,6 @@ pub fn resume(config: Config, run: Run, recording: &[u8], out: &mut [u8]) -> Pie
     ensures told { λ r. ⌜ r ≡ pieceOf config run (now (recording .entry)) (length (now (out .entry))) ⌝ }
     ensures output { λ r. ⌜ now (out .exit) ≡ over (pieceBytes config run (now (recording .entry)) (length (now (out .entry)))) (now (out .entry)) ⌝ }
 {
-    let arm = run.arm;
-    let counts = run.counts;
     let mut states = run.states;
     let r = lent_resume(
         config.numbers,
@@ -201,8 +199,7 @@ pub fn resume(config: Config, run: Run, recording: &[u8], out: &mut [u8]) -> Pie
         &config.latching,
         &config.argcounts,
         &config.args,
-        arm,
-        counts,
+        run.standing,
         &mut states,
         recording,
         out,
@@ -230,8 +227,6 @@ pub fn replay(image: &[u8], recording: &[u8], out: &mut [u8]) -> Replayed
     }
     let config = loaded.config;
     let run = loaded.run;
-    let arm = run.arm;
-    let counts = run.counts;
     let mut states = run.states;
     let reached = inner_replay(
         config.numbers,
@@ -243,13 +238,12 @@ pub fn replay(image: &[u8], recording: &[u8], out: &mut [u8]) -> Replayed
         &config.latching,
         &config.argcounts,
         &config.args,
-        arm,
-        counts,
+        run.standing,
         &mut states,
         recording,
         out,
     );
-    let last = reached.counts;
+    let last = reached.standing.counts;
     Replayed {
         load: 0,
         offset: 0,

@@ -40,7 +40,7 @@ written-is t s (packet p) = go (acceptedUnder t p) refl
         (simp (refusal-under-not t p (eqb-false _ _ e) 10 refl))
     go true e =
         rw (← packet-accepted t s p (commandId p) (argumentsOf p) (eqb-true _ _ e) refl refl)
-        (command-long (answerTo t (s .arm .armed) (commandId p) (argumentsOf p)) (t .ground) (commandId p) (argumentsOf p))
+        (command-long (answerTo t (s .standing .arm .armed) (commandId p) (argumentsOf p)) (t .settings .ground) (commandId p) (argumentsOf p))
 written-is t s tick = refl
 written-is t s (fault f) =
-    let row = rowFor (meant t f) (t .rows) in command-long (faultAnswer (s .states) (meant t f)) (t .fault) (row .response) (row .args)
+    let row = rowFor (meant t f) (t .rows) in command-long (faultAnswer (s .states) (meant t f)) (t .settings .fault) (row .response) (row .args)

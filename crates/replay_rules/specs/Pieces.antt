@@ -233,12 +233,12 @@ pub pieces-agree : (image : List ℕ) → loadOf image .answer ≡ 0 → (a : Li
     → let es = eventsOf (recordsOf (a ++ allMore xs)) in
     let n = chain (loadOf image .config) (loadOf image .run) a room xs .count in
     (chainBytes (loadOf image .config) (loadOf image .run) a room xs ≡ allBytes (take n (replies (recordsOf image) [] es)))
-    × (chain (loadOf image .config) (loadOf image .run) a room xs .run .counts ≡ knownCounts (recordsOf image) (latestFirst [] (take n es)))
+    × (chain (loadOf image .config) (loadOf image .run) a room xs .run .standing .counts ≡ knownCounts (recordsOf image) (latestFirst [] (take n es)))
 pieces-agree image z a room xs b =
     let es = eventsOf (recordsOf (a ++ allMore xs)) in
     let h = chain-answers (loadOf image .config) (loadOf image .run) a room xs (loaded-keeps image z) b in
     let n = chain (loadOf image .config) (loadOf image .run) a room xs .count in
-    (h .out-is ∙ ap (λ (l : List Reply). allBytes (take n l)) (agree image z es), ap (λ (r : Run). r .counts) (h .run-is) ∙ counters image z (take n es))
+    (h .out-is ∙ ap (λ (l : List Reply). allBytes (take n l)) (agree image z es), ap (λ (r : Run). r .standing .counts) (h .run-is) ∙ counters image z (take n es))
 
 -- with the room of an event in each call for each event of all the bytes, the last call does not stop for room
 pub chain-room : (c : Config) (s : Run) (a : List ℕ) (room : ℕ) (xs : List Turn) (most : ℕ) → eventRoom * length (eventsOf (recordsOf (a ++ allMore xs))) ≤ most

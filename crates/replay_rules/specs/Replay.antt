@@ -7,8 +7,7 @@ use Prim.Native.Nat.{ℕ}
 use lib.Dec.{eqb, ltb}
 use lib.ListN.{length, take}
 use Rattle.state.specs.declared.types.Config.{Config}
-use Rattle.state.specs.declared.types.Arm.{Arm}
-use Rattle.state.specs.declared.types.Counts.{Counts}
+use Rattle.state.specs.declared.types.Standing.{Standing}
 use Rattle.state.specs.declared.types.Run.{Run}
 use Rattle.state.specs.Tables.{Tables, tablesOf, runFrom, noCounts}
 use Rattle.state.specs.Test.{keepsRules}
@@ -38,8 +37,8 @@ abbrev pub stoppedAt : Run → ℕ → ℕ → ℕ → ℕ → Piece
 stoppedAt s n read count wrote = record { run = s; stop = n; read = read; count = count; wrote = wrote }
 
 -- and where the fault states are lent
-abbrev pub reachedAt : Arm → Counts → ℕ → ℕ → ℕ → ℕ → Reached
-reachedAt arm counts n read count wrote = record { arm = arm; counts = counts; stop = n; read = read; count = count; wrote = wrote }
+abbrev pub reachedAt : Standing → ℕ → ℕ → ℕ → ℕ → Reached
+reachedAt standing n read count wrote = record { standing = standing; stop = n; read = read; count = count; wrote = wrote }
 
 -- the replies that find room
 abbrev pub pathReplies : Tables → Run → List Record → ℕ → List Reply
@@ -50,7 +49,7 @@ piece t s rs xs = stoppedAt (after t s (answered xs rs)) (stopOf xs rs) (bytesIn
 
 -- what it came to and the fault states that were lent are the piece
 abbrev pub pieceLeft : Reached → List ℕ → Piece
-pieceLeft r states = stoppedAt (runFrom (r .arm) (r .counts) states) (r .stop) (r .read) (r .count) (r .wrote)
+pieceLeft r states = stoppedAt (runFrom (r .standing) states) (r .stop) (r .read) (r .count) (r .wrote)
 
 -- nothing read, nothing answered, nothing written
 abbrev pub idle : Run → ℕ → Piece

@@ -28,7 +28,7 @@ use Rattle.replay_rules.specs.Replay.{Replays, Resumes, stopOf, answered
 -- ---- a piece behind any state
 
 module _ (c : Config) (s : Run) (recording out : List ℕ) where
-  pub breaks : keepsRules c s ≡ false → Resumes c s recording out (reachedAt (s .arm) (s .counts) 20 0 0 0) (s .states) out
+  pub breaks : keepsRules c s ≡ false → Resumes c s recording out (reachedAt (s .standing) 20 0 0 0) (s .states) out
   unfolding pieceOf pieceBytes
   breaks e = record { told = rw e refl; output = rw e refl }
 
@@ -56,11 +56,11 @@ module _ (image recording out : List ℕ) {l : Loaded} (e : l ≡ loadOf image) 
     plain : path ≡ plainReplies image recording (length out)
     plain = rw (e, eq-eqb _ _ loads) (ap (λ (xs : List Reply). fitting (length out) xs) (agree image loads (eventsOf events)))
 
-    counted : (xs : List Reply) → after (tablesOf (l .config)) (l .run) (answered xs events) .counts ≡ knownCounts (recordsOf image) (latestFirst [] (answered xs events))
+    counted : (xs : List Reply) → after (tablesOf (l .config)) (l .run) (answered xs events) .standing .counts ≡ knownCounts (recordsOf image) (latestFirst [] (answered xs events))
     counted xs = rw e (counters image loads (answered xs events))
 
     abbrev whole : Piece → Replayed
-    whole p = record { load = 0; offset = 0; stop = p .stop; read = p .read; count = p .count; wrote = p .wrote; counts = p .run .counts }
+    whole p = record { load = 0; offset = 0; stop = p .stop; read = p .read; count = p .count; wrote = p .wrote; counts = p .run .standing .counts }
 
     abbrev counting : List Reply → Counts → Replayed
     counting xs cs =

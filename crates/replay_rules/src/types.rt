@@ -1,7 +1,7 @@
 // What a replay hands back, and the makers of it.
-use state::types::Arm;
 use state::types::Counts;
 use state::types::Run;
+use state::types::Standing;
 use state::types::run_of;
 ghost use mathlib.Core.Path.{_≡_};
 ghost use Rattle.replay_rules.specs.Replay.{reachedAt, pieceLeft};
@@ -20,8 +20,7 @@ pub struct Piece {
 
 // The same where the fault states are lent: they are left where they stand.
 pub struct Reached {
-    pub arm: Arm,
-    pub counts: Counts,
+    pub standing: Standing,
     pub stop: u8,
     pub read: usize,
     pub count: usize,
@@ -44,19 +43,11 @@ pub struct Replayed {
 }
 
 // Where a replay stopped, and why; the fault states are left where they stand.
-pub fn reached_at(
-    arm: Arm,
-    counts: Counts,
-    stop: u8,
-    read: usize,
-    count: usize,
-    wrote: usize,
-) -> Reached
-    ensures { λ r. ⌜ r ≡ reachedAt arm counts stop read count wrote ⌝ }
+pub fn reached_at(standing: Standing, stop: u8, read: usize, count: usize, wrote: usize) -> Reached
+    ensures { λ r. ⌜ r ≡ reachedAt standing stop read count wrote ⌝ }
 {
     Reached {
-        arm,
-        counts,
+        standing,
         stop,
         read,
         count,
@@ -68,10 +59,8 @@ pub fn reached_at(
 pub fn piece_of(r: Reached, states: [u8; 32]) -> Piece
     ensures { λ p. ⌜ p ≡ pieceLeft r states ⌝ }
 {
-    let arm = r.arm;
-    let counts = r.counts;
     Piece {
-        run: run_of(arm, counts, states),
+        run: run_of(r.standing, states),
         stop: r.stop,
         read: r.read,
         count: r.count,

@@ -11,7 +11,7 @@ use Rattle.wire.specs.Put.{putAt}
 use Rattle.state.specs.declared.types.Config.{Config}
 use Rattle.state.specs.Tables.{Route, FaultRow, Tables, routeId, faultId, argsOf, routed, listed, routeAt, rowAt, tablesOf, padded, flat, configOf, freshRun}
 use Rattle.state.specs.Sized.{Sized}
-use Rattle.state.specs.Keeps.{Each, Rules, Clear, ArgsClear, Unused, StatesOk, Keeps}
+use Rattle.state.specs.Keeps.{Each, Rules, AllZero, ArgsZero, Unused, StatesOk, Keeps}
 use Rattle.state.specs.KeepsLaws.{Few, length-listed}
 
 -- ---- a list read off places
@@ -217,52 +217,52 @@ rules-few {t} k =
       few-args = each-map (λ r h. h .few-args) (t .rows) (k .rows-ok);
     }
 
-zeros-clear : (n : ℕ) → Clear (replicate n 0)
-zeros-clear zero = tt
-zeros-clear (suc n) = (refl, zeros-clear n)
+zeros-are : (n : ℕ) → AllZero (replicate n 0)
+zeros-are zero = tt
+zeros-are (suc n) = (refl, zeros-are n)
 
-behind-clear : (limit : ℕ) (xs : List ℕ) (n : ℕ) → length xs ≡ n → Clear (drop n (padded limit xs))
-behind-clear limit xs n e = rw (padded-drop limit xs n e) (zeros-clear (limit - n))
+behind-zero : (limit : ℕ) (xs : List ℕ) (n : ℕ) → length xs ≡ n → AllZero (drop n (padded limit xs))
+behind-zero limit xs n e = rw (padded-drop limit xs n e) (zeros-are (limit - n))
 
-args-behind : (rows : List FaultRow) (z : List ℕ) → Short rows → Clear z → ArgsClear (map (λ r. length (r .args)) rows) (flat (map argsOf rows) ++ z)
+args-behind : (rows : List FaultRow) (z : List ℕ) → Short rows → AllZero z → ArgsZero (map (λ r. length (r .args)) rows) (flat (map argsOf rows) ++ z)
 args-behind [] z s k = k
 args-behind (r ∷ rows) z s k =
     let p = padded 16 (r .args) in
     let f = flat (map argsOf rows) in
     let n : length p ≡ 16 = padded-length 16 (r .args) (s .0) in
     rw (append-assoc p f z, take-at p (f ++ z) 16 n, drop-at p (f ++ z) 16 n)
-    (s .0, behind-clear 16 (r .args) (length (r .args)) refl, args-behind rows z (s .1) k)
+    (s .0, behind-zero 16 (r .args) (length (r .args)) refl, args-behind rows z (s .1) k)
 
 starts-ok : (rows : List FaultRow) (starts : List ℕ) (n : ℕ) → length starts ≡ length rows → Each (λ s. s ≤ 1) starts → StatesOk rows (starts ++ replicate n 0)
-starts-ok [] [] n e h = zeros-clear n
+starts-ok [] [] n e h = zeros-are n
 starts-ok [] (s ∷ starts) n e h = absurd (omega arith)
 starts-ok (r ∷ rows) [] n e h = absurd (omega arith)
 starts-ok (r ∷ rows) (s ∷ starts) n e h =
     (record { known = omega (arith, h .0); may-latch = λ p q. omega (arith, h .0) }, starts-ok rows starts n (omega arith) (h .1))
 
-unused-clear : (t : Tables) → Few t → Unused (configOf t)
-unused-clear t f =
+unused-zero : (t : Tables) → Few t → Unused (configOf t)
+unused-zero t f =
     record {
-      routeids-clear = route-column routeId;
-      dests-clear = route-column (λ r. r .dest);
-      protected-clear = behind-clear 32 (t .protected) (length (t .protected)) refl;
-      faultids-clear = row-column faultId;
-      responses-clear = row-column (λ r. r .response);
-      latching-clear = row-column (λ r. r .latching);
-      argcounts-clear = row-column counts;
-      args-clear =
+      routeids-zero = route-column routeId;
+      dests-zero = route-column (λ r. r .dest);
+      protected-zero = behind-zero 32 (t .protected) (length (t .protected)) refl;
+      faultids-zero = row-column faultId;
+      responses-zero = row-column (λ r. r .response);
+      latching-zero = row-column (λ r. r .latching);
+      argcounts-zero = row-column counts;
+      args-zero =
           rw (padded-take 32 (map counts (t .rows)) (length (t .rows)) (length-map (t .rows) counts))
-          (args-behind (t .rows) (replicate (512 - length (flat (map argsOf (t .rows)))) 0) (f .few-args) (zeros-clear (512 - length (flat (map argsOf (t .rows))))));
+          (args-behind (t .rows) (replicate (512 - length (flat (map argsOf (t .rows)))) 0) (f .few-args) (zeros-are (512 - length (flat (map argsOf (t .rows))))));
     }
   where
     counts : FaultRow → ℕ
     counts r = length (r .args)
 
-    route-column : (g : Route → ℕ) → Clear (drop (length (t .routes)) (padded 128 (map g (t .routes))))
-    route-column g = behind-clear 128 (map g (t .routes)) (length (t .routes)) (length-map (t .routes) g)
+    route-column : (g : Route → ℕ) → AllZero (drop (length (t .routes)) (padded 128 (map g (t .routes))))
+    route-column g = behind-zero 128 (map g (t .routes)) (length (t .routes)) (length-map (t .routes) g)
 
-    row-column : (g : FaultRow → ℕ) → Clear (drop (length (t .rows)) (padded 32 (map g (t .rows))))
-    row-column g = behind-clear 32 (map g (t .rows)) (length (t .rows)) (length-map (t .rows) g)
+    row-column : (g : FaultRow → ℕ) → AllZero (drop (length (t .rows)) (padded 32 (map g (t .rows))))
+    row-column g = behind-zero 32 (map g (t .rows)) (length (t .rows)) (length-map (t .rows) g)
 
 pub arrays-keep : (t : Tables) (starts : List ℕ) → Rules t → length starts ≡ length (t .rows) → Each (λ s. s ≤ 1) starts
     → Keeps (configOf t) (freshRun starts)
@@ -272,6 +272,6 @@ arrays-keep t starts k e h =
     record {
       within = k .few-protected;
       rules = rw back k;
-      unused = unused-clear t f;
+      unused = unused-zero t f;
       run-ok = rw back (record { arm-ok = refl; states-ok = starts-ok (t .rows) starts (32 - length starts) e h });
     }

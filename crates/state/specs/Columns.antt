@@ -6,7 +6,7 @@ use lib.ListN.{getD}
 use Rattle.state.specs.declared.types.Config.{Config}
 use Rattle.state.specs.declared.types.Run.{Run}
 use Rattle.state.specs.Tables.{FaultRow}
-use Rattle.state.specs.Keeps.{Clear, StatesOk, Keeps}
+use Rattle.state.specs.Keeps.{AllZero, StatesOk, Keeps}
 use Rattle.state.specs.Sized.{Sized}
 use Rattle.state.specs.Lookup.{Column}
 use Rattle.state.specs.ArrayLaws.{routes-count, rows-count, routed-is, fault-ids-are}
@@ -25,13 +25,13 @@ module _ {c : Config} {run : Run} (k : Keeps c run) (s : Sized c) where
       let n : c .numbers .nrows ≤ 32 = omega (arith, rows-count c, k .rules .few-rows) in
       record { slots = record { long = s .faultids-32; within = n }; rise = rw (fault-ids-are c (omega arith)) at (k .rules .rows-rise) }
 
-clear-small : (ss : List ℕ) → Clear ss → (k : ℕ) → getD ss k 0 ≤ 2
-clear-small [] h k = omega arith
-clear-small (s ∷ ss) h zero = omega (arith, h .0)
-clear-small (s ∷ ss) h (suc k) = clear-small ss (h .1) k
+zero-small : (ss : List ℕ) → AllZero ss → (k : ℕ) → getD ss k 0 ≤ 2
+zero-small [] h k = omega arith
+zero-small (s ∷ ss) h zero = omega (arith, h .0)
+zero-small (s ∷ ss) h (suc k) = zero-small ss (h .1) k
 
 pub states-small : (rows : List FaultRow) (ss : List ℕ) → StatesOk rows ss → (k : ℕ) → getD ss k 0 ≤ 2
-states-small [] ss h k = clear-small ss h k
+states-small [] ss h k = zero-small ss h k
 states-small (r ∷ rows) [] h k = omega arith
 states-small (r ∷ rows) (s ∷ ss) h zero = h .0 .known
 states-small (r ∷ rows) (s ∷ ss) h (suc k) = states-small rows ss (h .1) k

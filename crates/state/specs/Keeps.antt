@@ -8,16 +8,13 @@ use Prim.Native.Nat.{ℕ, suc, _+_, _≤_}
 use lib.ListN.{length, take, drop}
 use Rattle.state.specs.declared.types.Config.{Config}
 use Rattle.state.specs.declared.types.Run.{Run}
+use Rattle.state.specs.Settings.{SettingsOk}
 use Rattle.state.specs.Tables.{Route, FaultRow, Tables, faultId, routed, tablesOf}
 
 -- ---- declared: the rules of the tables
 
 abbrev pub Own : ℕ → ℕ → Type 0
 Own base id = (base ≤ id) × (id ≤ base + 7)
-
-pub record BasicsOk (ground fault base : ℕ) : Type 0 where
-  pub sources-differ : ground ≡ fault → ⊥
-  pub base-fits : base ≤ 65528
 
 pub record RouteOk (base : ℕ) (r : Route) : Type 0 where
   pub dest-low : 1 ≤ r .dest
@@ -44,36 +41,36 @@ module _ {A : Type 0} where
   Each P (x ∷ xs) = P x × Each P xs
 
 pub record Rules (t : Tables) : Type 0 where
-  pub basics : BasicsOk (t .ground) (t .fault) (t .base)
+  pub settings-ok : SettingsOk (t .settings)
   pub few-routes : length (t .routes) ≤ 128
   pub routes-rise : Rising 0 (routed t)
-  pub routes-ok : Each (RouteOk (t .base)) (t .routes)
+  pub routes-ok : Each (RouteOk (t .settings .base)) (t .routes)
   pub few-protected : length (t .protected) ≤ 32
   pub protected-rise : Rising 0 (t .protected)
-  pub protected-ok : Each (ProtectedOk (t .base) (routed t)) (t .protected)
+  pub protected-ok : Each (ProtectedOk (t .settings .base) (routed t)) (t .protected)
   pub few-rows : length (t .rows) ≤ 32
   pub rows-rise : Rising 0 (map faultId (t .rows))
   pub rows-ok : Each (RowOk (routed t)) (t .rows)
 
 -- ---- declared: unused is zero
 
-abbrev pub Clear : List ℕ → Type 0
-Clear xs = Each (λ x. x ≡ 0) xs
+abbrev pub AllZero : List ℕ → Type 0
+AllZero xs = Each (λ x. x ≡ 0) xs
 
 -- of the argument bytes, 16 places a row: at most 16 in use, and zero behind those in use and behind the last row
-abbrev pub ArgsClear : List ℕ → List ℕ → Type 0
-ArgsClear [] xs = Clear xs
-ArgsClear (n ∷ counts) xs = (n ≤ 16) × Clear (drop n (take 16 xs)) × ArgsClear counts (drop 16 xs)
+abbrev pub ArgsZero : List ℕ → List ℕ → Type 0
+ArgsZero [] xs = AllZero xs
+ArgsZero (n ∷ counts) xs = (n ≤ 16) × AllZero (drop n (take 16 xs)) × ArgsZero counts (drop 16 xs)
 
 pub record Unused (c : Config) : Type 0 where
-  pub routeids-clear : Clear (drop (c .numbers .nroutes) (c .routeids))
-  pub dests-clear : Clear (drop (c .numbers .nroutes) (c .dests))
-  pub protected-clear : Clear (drop (c .numbers .nprotected) (c .protected))
-  pub faultids-clear : Clear (drop (c .numbers .nrows) (c .faultids))
-  pub responses-clear : Clear (drop (c .numbers .nrows) (c .responses))
-  pub latching-clear : Clear (drop (c .numbers .nrows) (c .latching))
-  pub argcounts-clear : Clear (drop (c .numbers .nrows) (c .argcounts))
-  pub args-clear : ArgsClear (take (c .numbers .nrows) (c .argcounts)) (c .args)
+  pub routeids-zero : AllZero (drop (c .numbers .nroutes) (c .routeids))
+  pub dests-zero : AllZero (drop (c .numbers .nroutes) (c .dests))
+  pub protected-zero : AllZero (drop (c .numbers .nprotected) (c .protected))
+  pub faultids-zero : AllZero (drop (c .numbers .nrows) (c .faultids))
+  pub responses-zero : AllZero (drop (c .numbers .nrows) (c .responses))
+  pub latching-zero : AllZero (drop (c .numbers .nrows) (c .latching))
+  pub argcounts-zero : AllZero (drop (c .numbers .nrows) (c .argcounts))
+  pub args-zero : ArgsZero (take (c .numbers .nrows) (c .argcounts)) (c .args)
 
 -- ---- declared: the run
 
@@ -91,12 +88,12 @@ pub record StateOk (latching s : ℕ) : Type 0 where
 
 -- a state for each row, and zero for the rows that are not in use
 abbrev pub StatesOk : List FaultRow → List ℕ → Type 0
-StatesOk [] ss = Clear ss
+StatesOk [] ss = AllZero ss
 StatesOk (r ∷ rows) [] = Unit {0}
 StatesOk (r ∷ rows) (s ∷ ss) = StateOk (r .latching) s × StatesOk rows ss
 
 pub record RunOk (t : Tables) (r : Run) : Type 0 where
-  pub arm-ok : ArmOk (r .arm .armed) (r .arm .ticks)
+  pub arm-ok : ArmOk (r .standing .arm .armed) (r .standing .arm .ticks)
   pub states-ok : StatesOk (t .rows) (r .states)
 
 -- a state that keeps its rules. The protected ids are taken from their array, whose length would hide a larger count from

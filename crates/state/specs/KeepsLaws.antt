@@ -11,20 +11,18 @@ use lib.ListN.{length, getD, take, drop, length-take}
 use borrow.Author.Tests.{le-leb, eq-eqb, ne-eqb, leb-true, eqb-true, eqb-false, not-true}
 use Rattle.state.specs.declared.types.Config.{Config}
 use Rattle.state.specs.declared.types.Run.{Run}
+pub use Rattle.state.specs.Settings.{both}
+use Rattle.state.specs.Settings.{settingsOk, settings-kept, settings-keeps}
 use Rattle.state.specs.Tables.{Route, FaultRow, Tables, routeId, faultId, routed, listed, routeAt, rowAt, tablesOf}
-use Rattle.state.specs.Rules.{own, member, basicsOk, routeOk, protectedOk, rowOk}
-use Rattle.state.specs.Keeps.{Own, BasicsOk, RouteOk, ProtectedOk, RowOk, Rising, Each, Rules, Clear, ArgsClear, Unused, ArmOk, StateOk, StatesOk, RunOk, Keeps}
-use Rattle.state.specs.Test.{risingAll, clear, argsClear, routePasses, protectedPasses, rowPasses, routesKept, protectedKept, rowsKept, rulesKept, counted, unusedClear, configKept, armOk, stateOk, statesOk, runKept, keepsRules}
+use Rattle.state.specs.Rules.{own, member, routeOk, protectedOk, rowOk}
+use Rattle.state.specs.Keeps.{Own, RouteOk, ProtectedOk, RowOk, Rising, Each, Rules, AllZero, ArgsZero, Unused, ArmOk, StateOk, StatesOk, RunOk, Keeps}
+use Rattle.state.specs.Test.{risingAll, allZero, argsZero, routePasses, protectedPasses, rowPasses, routesKept, protectedKept, rowsKept, rulesKept, counted, unusedZero, configKept, armOk, stateOk, statesOk, runKept, keepsRules}
 
 -- ---- tests
 
 pub split : (A : Type 0) (b : Bool) → (b ≡ true → A) → (b ≡ false → A) → A
 split A true f g = f refl
 split A false f g = g refl
-
-pub both : (a b : Bool) → (a && b) ≡ true → (a ≡ true) × (b ≡ true)
-both true b e = (refl, e)
-both false b e = absurd (false≢true e)
 
 -- ---- own ids and members
 
@@ -52,18 +50,7 @@ member-keeps {x} {ys = []} e = absurd (false≢true e)
 member-keeps {x} {ys = y ∷ ys} e =
     split (List·Memᴰ x (y ∷ ys)) (eqb x y) (λ p. List·Memᴰ·head (eqb-true _ _ p)) (λ p. List·Memᴰ·tail (member-keeps (simp p at e)))
 
--- ---- basics and rows
-
-module _ {ground fault base : ℕ} where
-  pub basics-kept : BasicsOk ground fault base → basicsOk ground fault base ≡ true
-  unfolding basicsOk
-  basics-kept k = simp (ne-eqb _ _ (k .sources-differ), le-leb _ _ (k .base-fits))
-
-  pub basics-keeps : basicsOk ground fault base ≡ true → BasicsOk ground fault base
-  unfolding basicsOk
-  basics-keeps e =
-      let a = both (not (eqb ground fault)) _ e in
-      record { sources-differ = eqb-false _ _ (not-true (eqb ground fault) (a .0)); base-fits = leb-true _ _ (a .1) }
+-- ---- rows
 
 module _ {base : ℕ} {r : Route} where
   pub route-kept : RouteOk base r → routePasses base r ≡ true
@@ -95,7 +82,7 @@ module _ {base : ℕ} {ids : List ℕ} {id : ℕ} where
         not-arm = eqb-false _ _ (not-true (eqb id base) (a .0));
       }
 
--- the test of a row leaves the number of its arguments to `argsClear`
+-- the test of a row leaves the number of its arguments to `argsZero`
 module _ {ids : List ℕ} {r : FaultRow} where
   pub row-kept : RowOk ids r → rowPasses ids r ≡ true
   unfolding rowOk
@@ -136,27 +123,27 @@ module _ {A : Type 0} where
         let r = rising-keeps f (suc (id x)) xs (b .1) in
         ((leb-true _ _ (a .0), r .0), (f x (b .0), r .1))
 
-pub clear-kept : (xs : List ℕ) → Clear xs → clear xs ≡ true
-clear-kept [] h = refl
-clear-kept (x ∷ xs) h = simp (eq-eqb x 0 (h .0), clear-kept xs (h .1))
+pub zero-kept : (xs : List ℕ) → AllZero xs → allZero xs ≡ true
+zero-kept [] h = refl
+zero-kept (x ∷ xs) h = simp (eq-eqb x 0 (h .0), zero-kept xs (h .1))
 
-pub clear-keeps : (xs : List ℕ) → clear xs ≡ true → Clear xs
-clear-keeps [] e = tt
-clear-keeps (x ∷ xs) e = let a = both (eqb x 0) _ e in (eqb-true _ _ (a .0), clear-keeps xs (a .1))
+pub zero-keeps : (xs : List ℕ) → allZero xs ≡ true → AllZero xs
+zero-keeps [] e = tt
+zero-keeps (x ∷ xs) e = let a = both (eqb x 0) _ e in (eqb-true _ _ (a .0), zero-keeps xs (a .1))
 
-pub args-kept : (counts xs : List ℕ) → ArgsClear counts xs → argsClear counts xs ≡ true
-args-kept [] xs h = clear-kept xs h
-args-kept (n ∷ counts) xs h = simp (le-leb n 16 (h .0), clear-kept (drop n (take 16 xs)) (h .1), args-kept counts (drop 16 xs) (h .2))
+pub args-kept : (counts xs : List ℕ) → ArgsZero counts xs → argsZero counts xs ≡ true
+args-kept [] xs h = zero-kept xs h
+args-kept (n ∷ counts) xs h = simp (le-leb n 16 (h .0), zero-kept (drop n (take 16 xs)) (h .1), args-kept counts (drop 16 xs) (h .2))
 
-pub args-keeps : (counts xs : List ℕ) → argsClear counts xs ≡ true → ArgsClear counts xs
-args-keeps [] xs e = clear-keeps xs e
+pub args-keeps : (counts xs : List ℕ) → argsZero counts xs ≡ true → ArgsZero counts xs
+args-keeps [] xs e = zero-keeps xs e
 args-keeps (n ∷ counts) xs e =
     let a = both (leb n 16) _ e in
-    let b = both (clear (drop n (take 16 xs))) _ (a .1) in
-    (leb-true _ _ (a .0), clear-keeps (drop n (take 16 xs)) (b .0), args-keeps counts (drop 16 xs) (b .1))
+    let b = both (allZero (drop n (take 16 xs))) _ (a .1) in
+    (leb-true _ _ (a .0), zero-keeps (drop n (take 16 xs)) (b .0), args-keeps counts (drop 16 xs) (b .1))
 
 -- so a row in use has at most 16 arguments
-pub few-counted : (n i : ℕ) (counts xs : List ℕ) → ArgsClear (take n counts) xs → i < n → getD counts i 0 ≤ 16
+pub few-counted : (n i : ℕ) (counts xs : List ℕ) → ArgsZero (take n counts) xs → i < n → getD counts i 0 ≤ 16
 few-counted zero i counts xs h l = absurd (omega arith)
 few-counted (suc n) i [] xs h l = omega arith
 few-counted (suc n) zero (c ∷ counts) xs h l = h .0
@@ -188,12 +175,12 @@ module _ {latching s : ℕ} where
       record { known = leb-true _ _ (a .0); may-latch = λ p q. false≢true (simp (eq-eqb s 2 p, eq-eqb latching 0 q) at (a .1)) }
 
 pub states-kept : (rows : List FaultRow) (ss : List ℕ) → StatesOk rows ss → statesOk rows ss ≡ true
-states-kept [] ss h = clear-kept ss h
+states-kept [] ss h = zero-kept ss h
 states-kept (r ∷ rows) [] h = refl
 states-kept (r ∷ rows) (s ∷ ss) h = simp (state-kept (h .0), states-kept rows ss (h .1))
 
 pub states-keeps : (rows : List FaultRow) (ss : List ℕ) → statesOk rows ss ≡ true → StatesOk rows ss
-states-keeps [] ss e = clear-keeps ss e
+states-keeps [] ss e = zero-keeps ss e
 states-keeps (r ∷ rows) [] e = tt
 states-keeps (r ∷ rows) (s ∷ ss) e = let a = both (stateOk (r .latching) s) _ e in (state-keeps (a .0), states-keeps rows ss (a .1))
 
@@ -203,7 +190,7 @@ pub rules-kept : {t : Tables} → Rules t → rulesKept t ≡ true
 unfolding rulesKept routesKept protectedKept rowsKept
 rules-kept {t} k =
     simp (
-      basics-kept (k .basics),
+      settings-kept (k .settings-ok),
       rising-kept routeId (λ r h. route-kept h) 0 (t .routes) (k .routes-rise) (k .routes-ok),
       rising-kept (λ id. id) (λ id h. protected-kept h) 0 (t .protected) (rw map-id (k .protected-rise)) (k .protected-ok),
       rising-kept faultId (λ r h. row-kept h) 0 (t .rows) (k .rows-rise) (k .rows-ok),
@@ -219,14 +206,14 @@ pub record Few (t : Tables) : Type 0 where
 pub rules-keeps : {t : Tables} → rulesKept t ≡ true → Few t → Rules t
 unfolding rulesKept routesKept protectedKept rowsKept
 rules-keeps {t} e few =
-    let a = both (basicsOk (t .ground) (t .fault) (t .base)) _ e in
-    let b = both (routesKept (t .base) (t .routes)) _ (a .1) in
-    let d = both (protectedKept (t .base) (routed t) (t .protected)) _ (b .1) in
+    let a = both (settingsOk (t .settings)) _ e in
+    let b = both (routesKept (t .settings .base) (t .routes)) _ (a .1) in
+    let d = both (protectedKept (t .settings .base) (routed t) (t .protected)) _ (b .1) in
     let routes = rising-keeps routeId (λ r h. route-keeps h) 0 (t .routes) (b .0) in
     let protected = rising-keeps (λ id. id) (λ id h. protected-keeps h) 0 (t .protected) (d .0) in
     let rows = rising-keeps {P = λ r. length (r .args) ≤ 16 → RowOk (routed t) r} faultId (λ r h. row-keeps h) 0 (t .rows) (d .1) in
     record {
-      basics = basics-keeps (a .0);
+      settings-ok = settings-keeps (a .0);
       few-routes = few .few-routes;
       routes-rise = routes .0;
       routes-ok = routes .1;
@@ -239,51 +226,51 @@ rules-keeps {t} e few =
     }
 
 module _ {c : Config} where
-  pub unused-kept : Unused c → unusedClear c ≡ true
-  unfolding unusedClear
+  pub unused-kept : Unused c → unusedZero c ≡ true
+  unfolding unusedZero
   unused-kept k =
       simp (
-        clear-kept (drop (c .numbers .nroutes) (c .routeids)) (k .routeids-clear),
-        clear-kept (drop (c .numbers .nroutes) (c .dests)) (k .dests-clear),
-        clear-kept (drop (c .numbers .nprotected) (c .protected)) (k .protected-clear),
-        clear-kept (drop (c .numbers .nrows) (c .faultids)) (k .faultids-clear),
-        clear-kept (drop (c .numbers .nrows) (c .responses)) (k .responses-clear),
-        clear-kept (drop (c .numbers .nrows) (c .latching)) (k .latching-clear),
-        clear-kept (drop (c .numbers .nrows) (c .argcounts)) (k .argcounts-clear),
-        args-kept (take (c .numbers .nrows) (c .argcounts)) (c .args) (k .args-clear),
+        zero-kept (drop (c .numbers .nroutes) (c .routeids)) (k .routeids-zero),
+        zero-kept (drop (c .numbers .nroutes) (c .dests)) (k .dests-zero),
+        zero-kept (drop (c .numbers .nprotected) (c .protected)) (k .protected-zero),
+        zero-kept (drop (c .numbers .nrows) (c .faultids)) (k .faultids-zero),
+        zero-kept (drop (c .numbers .nrows) (c .responses)) (k .responses-zero),
+        zero-kept (drop (c .numbers .nrows) (c .latching)) (k .latching-zero),
+        zero-kept (drop (c .numbers .nrows) (c .argcounts)) (k .argcounts-zero),
+        args-kept (take (c .numbers .nrows) (c .argcounts)) (c .args) (k .args-zero),
       )
 
-  pub unused-keeps : unusedClear c ≡ true → Unused c
-  unfolding unusedClear
+  pub unused-keeps : unusedZero c ≡ true → Unused c
+  unfolding unusedZero
   unused-keeps e =
-      let a = both (clear (drop (c .numbers .nroutes) (c .routeids))) _ e in
-      let b = both (clear (drop (c .numbers .nroutes) (c .dests))) _ (a .1) in
-      let d = both (clear (drop (c .numbers .nprotected) (c .protected))) _ (b .1) in
-      let f = both (clear (drop (c .numbers .nrows) (c .faultids))) _ (d .1) in
-      let g = both (clear (drop (c .numbers .nrows) (c .responses))) _ (f .1) in
-      let h = both (clear (drop (c .numbers .nrows) (c .latching))) _ (g .1) in
-      let i = both (clear (drop (c .numbers .nrows) (c .argcounts))) _ (h .1) in
+      let a = both (allZero (drop (c .numbers .nroutes) (c .routeids))) _ e in
+      let b = both (allZero (drop (c .numbers .nroutes) (c .dests))) _ (a .1) in
+      let d = both (allZero (drop (c .numbers .nprotected) (c .protected))) _ (b .1) in
+      let f = both (allZero (drop (c .numbers .nrows) (c .faultids))) _ (d .1) in
+      let g = both (allZero (drop (c .numbers .nrows) (c .responses))) _ (f .1) in
+      let h = both (allZero (drop (c .numbers .nrows) (c .latching))) _ (g .1) in
+      let i = both (allZero (drop (c .numbers .nrows) (c .argcounts))) _ (h .1) in
       record {
-        routeids-clear = clear-keeps (drop (c .numbers .nroutes) (c .routeids)) (a .0);
-        dests-clear = clear-keeps (drop (c .numbers .nroutes) (c .dests)) (b .0);
-        protected-clear = clear-keeps (drop (c .numbers .nprotected) (c .protected)) (d .0);
-        faultids-clear = clear-keeps (drop (c .numbers .nrows) (c .faultids)) (f .0);
-        responses-clear = clear-keeps (drop (c .numbers .nrows) (c .responses)) (g .0);
-        latching-clear = clear-keeps (drop (c .numbers .nrows) (c .latching)) (h .0);
-        argcounts-clear = clear-keeps (drop (c .numbers .nrows) (c .argcounts)) (i .0);
-        args-clear = args-keeps (take (c .numbers .nrows) (c .argcounts)) (c .args) (i .1);
+        routeids-zero = zero-keeps (drop (c .numbers .nroutes) (c .routeids)) (a .0);
+        dests-zero = zero-keeps (drop (c .numbers .nroutes) (c .dests)) (b .0);
+        protected-zero = zero-keeps (drop (c .numbers .nprotected) (c .protected)) (d .0);
+        faultids-zero = zero-keeps (drop (c .numbers .nrows) (c .faultids)) (f .0);
+        responses-zero = zero-keeps (drop (c .numbers .nrows) (c .responses)) (g .0);
+        latching-zero = zero-keeps (drop (c .numbers .nrows) (c .latching)) (h .0);
+        argcounts-zero = zero-keeps (drop (c .numbers .nrows) (c .argcounts)) (i .0);
+        args-zero = args-keeps (take (c .numbers .nrows) (c .argcounts)) (c .args) (i .1);
       }
 
 module _ {t : Tables} {r : Run} where
   pub run-kept : RunOk t r → runKept t r ≡ true
   unfolding runKept
-  run-kept k = simp (arm-kept (r .arm .armed) (r .arm .ticks) (k .arm-ok), states-kept (t .rows) (r .states) (k .states-ok))
+  run-kept k = simp (arm-kept (r .standing .arm .armed) (r .standing .arm .ticks) (k .arm-ok), states-kept (t .rows) (r .states) (k .states-ok))
 
   pub run-keeps : runKept t r ≡ true → RunOk t r
   unfolding runKept
   run-keeps e =
-      let a = both (armOk (r .arm .armed) (r .arm .ticks)) _ e in
-      record { arm-ok = arm-keeps (r .arm .armed) (r .arm .ticks) (a .0); states-ok = states-keeps (t .rows) (r .states) (a .1) }
+      let a = both (armOk (r .standing .arm .armed) (r .standing .arm .ticks)) _ e in
+      record { arm-ok = arm-keeps (r .standing .arm .armed) (r .standing .arm .ticks) (a .0); states-ok = states-keeps (t .rows) (r .states) (a .1) }
 
 module _ {nroutes nprotected nrows : ℕ} where
   pub counts-kept : (nroutes ≤ 128) × (nprotected ≤ 32) × (nrows ≤ 32) → counted nroutes nprotected nrows ≡ true
@@ -320,7 +307,7 @@ config-keeps c e =
             few-rows = simp length-listed (few .2);
             few-args =
                 each-listed (λ r. length (r .args) ≤ 16) (rowAt (c .faultids) (c .responses) (c .latching) (c .argcounts) (c .args)) 0 (c .numbers .nrows)
-                (λ i l. let m = few-counted (c .numbers .nrows) i (c .argcounts) (c .args) (unused .args-clear) (omega arith) in simp length-take (omega arith));
+                (λ i l. let m = few-counted (c .numbers .nrows) i (c .argcounts) (c .args) (unused .args-zero) (omega arith) in simp length-take (omega arith));
           },
       unused,
     )

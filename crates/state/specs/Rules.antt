@@ -1,5 +1,5 @@
--- The rules of document 01 for a configuration's numbers and rows, each said once: loading and the judging of a state both
--- cite them.
+-- The rules of document 01 for a configuration's rows, each said once: loading and the judging of a state both cite them. That of
+-- its settings stands in `Settings`.
 use mathlib.Core.Bool.{Bool, true, false, cond, not, _&&_, _||_}
 use mathlib.Core.List.{List, [], _∷_}
 use Prim.Native.Nat.{ℕ, suc, _+_}
@@ -13,10 +13,6 @@ own base id = leb base id && leb id (base + 7)
 abbrev pub member : ℕ → List ℕ → Bool
 member x [] = false
 member x (y ∷ ys) = cond (eqb x y) true (member x ys)
-
--- the ground and fault sources differ, own base is at most 65,528
-unfoldable pub basicsOk : ℕ → ℕ → ℕ → Bool
-basicsOk ground fault base = not (eqb ground fault) && leb base 65528
 
 -- the destination is 1 to 31, no routed id is an own id
 unfoldable pub routeOk : ℕ → ℕ → ℕ → Bool

@@ -3,11 +3,14 @@ use mathlib.Core.Bool.{false}
 use mathlib.Core.List.{List, [], _∷_, _++_, map}
 use Prim.Native.Nat.{ℕ, zero, suc, _-_, _*_}
 use lib.ListN.{length, getD, take, drop, replicate}
+use Rattle.state.specs.declared.types.Settings.{Settings}
 use Rattle.state.specs.declared.types.Numbers.{Numbers}
 use Rattle.state.specs.declared.types.Config.{Config}
 use Rattle.state.specs.declared.types.Arm.{Arm}
 use Rattle.state.specs.declared.types.Counts.{Counts}
+use Rattle.state.specs.declared.types.Standing.{Standing}
 use Rattle.state.specs.declared.types.Run.{Run}
+use Rattle.state.specs.Settings.{noSettings}
 
 -- ---- rows
 
@@ -23,9 +26,7 @@ pub record FaultRow : Type 0 where
   pub args : List ℕ
 
 pub record Tables : Type 0 where
-  pub ground : ℕ
-  pub fault : ℕ
-  pub base : ℕ
+  pub settings : Settings
   pub routes : List Route
   pub protected : List ℕ
   pub rows : List FaultRow
@@ -41,7 +42,7 @@ abbrev pub routed : Tables → List ℕ
 routed t = map routeId (t .routes)
 
 abbrev pub empty : Tables
-empty = record { ground = 0; fault = 0; base = 0; routes = []; protected = []; rows = [] }
+empty = record { settings = noSettings; routes = []; protected = []; rows = [] }
 
 -- ---- read off the arrays
 
@@ -67,9 +68,7 @@ rowAt ids responses latching counts args k =
 abbrev pub tablesOf : Config → Tables
 tablesOf c =
     record {
-      ground = c .numbers .ground;
-      fault = c .numbers .fault;
-      base = c .numbers .base;
+      settings = c .numbers .settings;
       routes = listed (routeAt (c .routeids) (c .dests)) 0 (c .numbers .nroutes);
       protected = take (c .numbers .nprotected) (c .protected);
       rows = listed (rowAt (c .faultids) (c .responses) (c .latching) (c .argcounts) (c .args)) 0 (c .numbers .nrows);
@@ -92,19 +91,16 @@ configFrom numbers routeids dests protected faultids responses latching argcount
 
 -- ---- the run: made here and nowhere else
 
--- the run of an arm record, counters and fault states
-abbrev pub runFrom : Arm → Counts → List ℕ → Run
-runFrom arm counts states = record { arm = arm; counts = counts; states = states }
+-- the standing of an arm record and counters: who changes one part uses a maker below, and hands the others on
+abbrev pub standingFrom : Arm → Counts → Standing
+standingFrom arm counts = record { arm = arm; counts = counts }
 
--- a run with one part changed
-abbrev pub withArm : Arm → Run → Run
-withArm arm run = runFrom arm (run .counts) (run .states)
+-- a standing with one part changed
+abbrev pub withArm : Arm → Standing → Standing
+withArm arm s = standingFrom arm (s .counts)
 
-abbrev pub withCounts : Counts → Run → Run
-withCounts counts run = runFrom (run .arm) counts (run .states)
-
-abbrev pub withStates : List ℕ → Run → Run
-withStates states run = runFrom (run .arm) (run .counts) states
+abbrev pub withCounts : Counts → Standing → Standing
+withCounts counts s = standingFrom (s .arm) counts
 
 abbrev pub unarmed : Arm
 unarmed = record { armed = false; ticks = 0 }
@@ -112,9 +108,20 @@ unarmed = record { armed = false; ticks = 0 }
 abbrev pub noCounts : Counts
 noCounts = record { a = 0; r = 0; d = 0; p = 0; u = 0; i = 0; f = 0 }
 
+abbrev pub firstStanding : Standing
+firstStanding = standingFrom unarmed noCounts
+
+-- the run of a standing and fault states
+abbrev pub runFrom : Standing → List ℕ → Run
+runFrom standing states = record { standing = standing; states = states }
+
+-- a run with its counters changed, and nothing else
+abbrev pub runCounted : Counts → Run → Run
+runCounted counts run = runFrom (withCounts counts (run .standing)) (run .states)
+
 -- unarmed, zero counters, and these fault states, as they stand in their array
 abbrev pub firstRun : List ℕ → Run
-firstRun states = runFrom unarmed noCounts states
+firstRun states = runFrom firstStanding states
 
 -- ---- written into arrays
 
@@ -135,9 +142,7 @@ configOf t =
     record {
       numbers =
           record {
-            ground = t .ground;
-            fault = t .fault;
-            base = t .base;
+            settings = t .settings;
             nroutes = length (t .routes);
             nprotected = length (t .protected);
             nrows = length (t .rows);

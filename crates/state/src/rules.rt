@@ -1,6 +1,8 @@
 // The rules of document 01 for a configuration's numbers and rows, one function each.
 ghost use mathlib.Core.Path.{_≡_};
-ghost use Rattle.state.specs.Rules.{own, basicsOk, routeOk, protectedOk, rowOk, startOk};
+ghost use Rattle.state.specs.Settings.{settingsOk};
+ghost use Rattle.state.specs.Rules.{own, routeOk, protectedOk, rowOk, startOk};
+use crate::types::Settings;
 
 // The id is one of the eight own ids.
 pub fn is_own(base: u16, id: u16) -> bool
@@ -16,13 +18,13 @@ pub fn is_own(base: u16, id: u16) -> bool
 }
 
 // The sources differ, and the own ids end within 65,535.
-pub fn basics_ok(ground: u16, fault: u16, base: u16) -> bool
-    ensures { λ r. ⌜ r ≡ basicsOk ground fault base ⌝ }
+pub fn settings_ok(settings: Settings) -> bool
+    ensures { λ r. ⌜ r ≡ settingsOk settings ⌝ }
 {
-    if ground == fault {
+    if settings.ground == settings.fault {
         return false;
     }
-    base <= 65528
+    settings.base <= 65528
 }
 
 // The destination is 1 to 31, and the id is no own id.

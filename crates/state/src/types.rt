@@ -1,14 +1,22 @@
 // What the state is made of. The tables stand in arrays of numbers, one array for each column, because that is what a step
-// looks through fastest; rows that are not in use are zero. A run is made here and nowhere else.
+// looks through fastest; rows that are not in use are zero. A run is made here and nowhere else, and so is a standing, but for
+// one that is taken in across the C boundary.
 ghost use mathlib.Core.Path.{_≡_};
-ghost use Rattle.state.specs.Tables.{noCounts, runFrom, firstRun};
+ghost use Rattle.state.specs.Settings.{noSettings};
+ghost use Rattle.state.specs.Tables.{noCounts, withArm, withCounts, runFrom, firstRun};
 
-// The numbers of a configuration: sources, own base, and the rows in use of each table. They go by value, beside lent columns.
+// What the single records of an image set: the sources and own base.
 #[repr(C)]
-pub struct Numbers {
+pub struct Settings {
     pub ground: u16,
     pub fault: u16,
     pub base: u16,
+}
+
+// The numbers of a configuration: its settings, and the rows in use of each table. They go by value, beside lent columns.
+#[repr(C)]
+pub struct Numbers {
+    pub settings: Settings,
     pub nroutes: usize,
     pub nprotected: usize,
     pub nrows: usize,
@@ -49,12 +57,29 @@ pub struct Counts {
     pub f: u16,
 }
 
+// What steps change beside the fault states. It goes by value, and most functions hand it on as it came.
+#[repr(C)]
+pub struct Standing {
+    pub arm: Arm,
+    pub counts: Counts,
+}
+
 // What steps change. A fault state is 0 disabled, 1 enabled, 2 latched.
 #[repr(C)]
 pub struct Run {
-    pub arm: Arm,
-    pub counts: Counts,
+    pub standing: Standing,
     pub states: [u8; 32],
+}
+
+// All zero, as in the state that a refused load hands back.
+pub fn no_settings() -> Settings
+    ensures { λ r. ⌜ r ≡ noSettings ⌝ }
+{
+    Settings {
+        ground: 0,
+        fault: 0,
+        base: 0,
+    }
 }
 
 // All seven counters at zero.
@@ -72,15 +97,29 @@ pub fn no_counts() -> Counts
     }
 }
 
-// The run of its parts.
-pub fn run_of(arm: Arm, counts: Counts, states: [u8; 32]) -> Run
-    ensures { λ r. ⌜ r ≡ runFrom arm counts states ⌝ }
+// A standing with another arm record.
+pub fn with_arm(standing: Standing, arm: Arm) -> Standing
+    ensures { λ r. ⌜ r ≡ withArm arm standing ⌝ }
 {
-    Run {
-        arm,
-        counts,
-        states,
-    }
+    let mut next = standing;
+    next.arm = arm;
+    next
+}
+
+// A standing with other counters.
+pub fn with_counts(standing: Standing, counts: Counts) -> Standing
+    ensures { λ r. ⌜ r ≡ withCounts counts standing ⌝ }
+{
+    let mut next = standing;
+    next.counts = counts;
+    next
+}
+
+// The run of its parts.
+pub fn run_of(standing: Standing, states: [u8; 32]) -> Run
+    ensures { λ r. ⌜ r ≡ runFrom standing states ⌝ }
+{
+    Run { standing, states }
 }
 
 // The run behind loading: unarmed, zero counters, and these fault states.
@@ -91,5 +130,9 @@ pub fn first_run(states: [u8; 32]) -> Run
         armed: false,
         ticks: 0,
     };
-    run_of(unarmed, no_counts(), states)
+    let standing = Standing {
+        arm: unarmed,
+        counts: no_counts(),
+    };
+    run_of(standing, states)
 }

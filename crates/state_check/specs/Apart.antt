@@ -10,10 +10,10 @@ use lib.ListN.{length, getD, take, drop}
 use Rattle.state.specs.Tables.{FaultRow, routeId, faultId, listed, routeAt, rowAt}
 use Rattle.state.specs.ArrayLaws.{column-is, column-of}
 use Rattle.state.specs.Rules.{member, routeOk, rowOk}
-use Rattle.state.specs.Test.{risingAll, clear, routePasses, protectedPasses, rowPasses, routesKept, protectedKept, rowsKept, stateOk, statesOk}
+use Rattle.state.specs.Test.{risingAll, allZero, routePasses, protectedPasses, rowPasses, routesKept, protectedKept, rowsKept, stateOk, statesOk}
 use Rattle.state_check.specs.Each.{each, rises, within, destOk, foreign}
 use Rattle.state_check.specs.Walks.{Gathered, passes, crossed, item-at}
-use Rattle.state_check.specs.TableParts.{bare}
+use Rattle.state_check.specs.TableParts.{argless}
 
 abbrev pub among : List ℕ → ℕ → Bool
 among ids id = member id ids
@@ -55,7 +55,7 @@ module _ (ids faultids responses latching : List ℕ) (m : ℕ) where
   responded = each (among ids) (take m responses)
 
   pub rows-apart : (m ≤ length faultids) × (m ≤ length responses) × (m ≤ length latching)
-      → Gathered (rowsKept ids (bare faultids responses latching m)) (latchings && responded) (rises 0 (take m faultids))
+      → Gathered (rowsKept ids (argless faultids responses latching m)) (latchings && responded) (rises 0 (take m faultids))
   unfolding rowsKept rowOk
   rows-apart (l, n, o) =
       let f = rowAt faultids responses latching [] [] in
@@ -65,7 +65,7 @@ module _ (ids faultids responses latching : List ℕ) (m : ℕ) where
       }
 
   pub rows-latch : (m ≤ length faultids) × (m ≤ length responses) × (m ≤ length latching) → rises 0 (take m faultids) ≡ true
-      → Gathered (rowsKept ids (bare faultids responses latching m)) responded latchings
+      → Gathered (rowsKept ids (argless faultids responses latching m)) responded latchings
   rows-latch l e = passes (rows-apart l) e record { rest = refl }
 
 -- ---- fault states, row by row
@@ -82,5 +82,5 @@ module _ (f : ℕ → FaultRow) (n : ℕ) (ss : List ℕ) where
     pub states-at : (k < n) × (n ≤ length ss) → Gathered (statesFrom k) (statesFrom (k + 1)) (stateOk (f k .latching) (getD ss k 0))
     states-at l = let e : n - k ≡ suc (n - (k + 1)) = omega arith in record { rest = rw (e, item-at ss k (omega arith), add-one k) }
 
-    pub states-past : k ≡ n → clear (drop n ss) ≡ true → statesFrom k ≡ true
+    pub states-past : k ≡ n → allZero (drop n ss) ≡ true → statesFrom k ≡ true
     states-past l z = let e : n - k ≡ 0 = omega arith in rw (e, l) z

@@ -10,7 +10,7 @@ use lib.ListN.{length, getD, take, drop, length-take, drop-of-length-le}
 use lib.Seq.{drop-cons, drop-drop, getD-take}
 use borrow.Author.Tests.{le-leb, lt-leb, lt-ltb, le-ltb, leb-true, leb-false, not-true, not-false}
 use Rattle.state.specs.Rules.{own}
-use Rattle.state.specs.Test.{clear, argsClear}
+use Rattle.state.specs.Test.{allZero, argsZero}
 use Rattle.state.specs.KeepsLaws.{split}
 use Rattle.state_check.specs.Each.{each, rises, foreign}
 
@@ -70,10 +70,10 @@ beside {left} {rest} {a} {b} h k = record { rest = rw (h .rest, k .rest) (crosse
 -- ---- the walks
 
 module _ (xs : List ℕ) (k : ℕ) where
-  pub zero-at : k < length xs → Gathered (clear (drop k xs)) (clear (drop (k + 1) xs)) (eqb (getD xs k 0) 0)
+  pub zero-at : k < length xs → Gathered (allZero (drop k xs)) (allZero (drop (k + 1) xs)) (eqb (getD xs k 0) 0)
   zero-at l = record { rest = rw (item-at xs k l) }
 
-  pub zero-past : length xs ≤ k → clear (drop k xs) ≡ true
+  pub zero-past : length xs ≤ k → allZero (drop k xs) ≡ true
   zero-past l = rw (drop-of-length-le xs {i = k} l)
 
 module _ (p : ℕ → Bool) (xs : List ℕ) (n k : ℕ) where
@@ -121,7 +121,7 @@ is-foreign base id = rw (above base id, above id (base + 7)) (not-both (leb base
 
 pub record ArgsWalked (counts : List ℕ) (n : ℕ) (args : List ℕ) (k : ℕ) : Type 0 where
   pub upto : k ≤ n
-  pub rest : argsClear (take n counts) args ≡ argsClear (drop k (take n counts)) (drop (16 * k) args)
+  pub rest : argsZero (take n counts) args ≡ argsZero (drop k (take n counts)) (drop (16 * k) args)
 
 pub args-start : {counts : List ℕ} {n : ℕ} {args : List ℕ} → ArgsWalked counts n args 0
 args-start = record { upto = omega arith; rest = refl }
@@ -133,22 +133,22 @@ module _ {counts : List ℕ} {n : ℕ} {args : List ℕ} {k : ℕ} (h : ArgsWalk
 
     -- the part of the bytes that the row has
     abbrev left : Bool
-    left = clear (drop count (take (16 * k + 16 - 16 * k) (drop (16 * k) args)))
+    left = allZero (drop count (take (16 * k + 16 - 16 * k) (drop (16 * k) args)))
 
-    args-at : argsClear (take n counts) args ≡ (leb count 16 && (left && argsClear (drop (k + 1) (take n counts)) (drop (16 * (k + 1)) args)))
+    args-at : argsZero (take n counts) args ≡ (leb count 16 && (left && argsZero (drop (k + 1) (take n counts)) (drop (16 * (k + 1)) args)))
     args-at =
         let e : 16 * (k + 1) ≡ 16 * k + 16 = omega arith in
         let p : 16 * k + 16 - 16 * k ≡ 16 = omega arith in
         h .rest ∙ rw (id-at counts n k l, drop-drop 16 (16 * k) args, e, p)
 
-    pub args-many : 16 < count → false ≡ argsClear (take n counts) args
+    pub args-many : 16 < count → false ≡ argsZero (take n counts) args
     args-many m = sym (args-at ∙ simp (lt-leb count 16 m))
 
-    pub args-left : left ≡ false → false ≡ argsClear (take n counts) args
+    pub args-left : left ≡ false → false ≡ argsZero (take n counts) args
     args-left f = sym (args-at ∙ simp (f, and-false))
 
     pub args-on : count ≤ 16 → left ≡ true → ArgsWalked counts n args (k + 1)
     args-on m t = record { upto = omega arith; rest = args-at ∙ simp (le-leb count 16 m, t) }
 
-  pub args-end : n ≤ k → clear (drop (16 * n) args) ≡ argsClear (take n counts) args
+  pub args-end : n ≤ k → allZero (drop (16 * n) args) ≡ argsZero (take n counts) args
   args-end l = let e : k ≡ n = omega (arith, h .upto) in sym (h .rest ∙ rw (e, past-ids counts n n (omega arith)))

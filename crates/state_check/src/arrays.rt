@@ -6,12 +6,12 @@ ghost use mathlib.Core.Path.{_≡_};
 ghost use mathlib.Core.Bool.{_&&_};
 ghost use Prim.Native.Nat.{_≤_};
 ghost use lib.ListN.{length, take, drop};
-ghost use Rattle.state.specs.Test.{clear};
+ghost use Rattle.state.specs.Test.{allZero};
 ghost use Rattle.state_check.specs.Each.{each, rises, within, destOk, foreign};
 
 // All is zero from a place on.
 pub(crate) fn zero_words(xs: &[u16], from: usize) -> bool
-    ensures { λ r. ⌜ r ≡ clear (drop from (now (xs .entry))) ⌝ }
+    ensures { λ r. ⌜ r ≡ allZero (drop from (now (xs .entry))) ⌝ }
 {
     let mut ok = true;
     let mut j = from;
@@ -24,7 +24,7 @@ pub(crate) fn zero_words(xs: &[u16], from: usize) -> bool
 
 // The same of bytes.
 pub(crate) fn zero_bytes(xs: &[u8], from: usize) -> bool
-    ensures { λ r. ⌜ r ≡ clear (drop from (now (xs .entry))) ⌝ }
+    ensures { λ r. ⌜ r ≡ allZero (drop from (now (xs .entry))) ⌝ }
 {
     let mut ok = true;
     let mut k = from;
@@ -39,7 +39,7 @@ pub(crate) fn zero_bytes(xs: &[u8], from: usize) -> bool
 // internal: for the judge of a state, whose fault rows stand in arrays of 32.
 pub(crate) fn zero_two<'a>(a: &'a [u16], b: &'a [u16], from: usize) -> bool
     requires { ⌜ (length (now a) ≡ 32) × (length (now b) ≡ 32) ⌝ }
-    ensures { λ r. ⌜ r ≡ (clear (drop from (now (a .entry))) && clear (drop from (now (b .entry)))) ⌝ }
+    ensures { λ r. ⌜ r ≡ (allZero (drop from (now (a .entry))) && allZero (drop from (now (b .entry)))) ⌝ }
 {
     let mut ok = true;
     let mut j = from;
@@ -54,7 +54,7 @@ pub(crate) fn zero_two<'a>(a: &'a [u16], b: &'a [u16], from: usize) -> bool
 // internal: for the judge of a state, whose fault rows stand in arrays of 32.
 pub(crate) fn zero_three<'a>(a: &'a [u8], b: &'a [u8], c: &'a [u8], from: usize) -> bool
     requires { ⌜ (length (now a) ≡ 32) × (length (now b) ≡ 32) × (length (now c) ≡ 32) ⌝ }
-    ensures { λ r. ⌜ r ≡ (clear (drop from (now (a .entry))) && (clear (drop from (now (b .entry))) && clear (drop from (now (c .entry))))) ⌝ }
+    ensures { λ r. ⌜ r ≡ (allZero (drop from (now (a .entry))) && (allZero (drop from (now (b .entry))) && allZero (drop from (now (c .entry))))) ⌝ }
 {
     let mut ok = true;
     let mut j = from;

@@ -17,10 +17,10 @@ use crate::values::all;
 use crate::values::arm_ok;
 use crate::values::counts_ok;
 use state::rules;
-use state::types::Arm;
 use state::types::Config;
 use state::types::Numbers;
 use state::types::Run;
+use state::types::Standing;
 ghost use mathlib.Core.Path.{_≡_};
 ghost use Prim.Native.Nat.{_≤_};
 ghost use lib.ListN.{length};
@@ -39,7 +39,8 @@ fn routes_judged<'a>(
     protected: &'a [u16],
     m: usize,
 ) -> bool
-    requires { ⌜ (length (now ids) ≡ 128) × (n ≤ length (now ids)) × (n ≤ length (now dests)) × (m ≤ length (now protected)) × (base ≤ 65528) ⌝ }
+    requires { ⌜ (length (now ids) ≡ 128) × (n ≤ length (now ids)) × (n ≤ length (now dests)) × (m ≤ length (now protected))
+        × (base ≤ 65528) ⌝ }
     ensures { λ r. ⌜ r ≡ routesPart base (now (ids .entry)) (now (dests .entry)) n (now (protected .entry)) m ⌝ }
 {
     if !routes_keep(base, ids, dests, n) {
@@ -53,7 +54,7 @@ fn routes_judged<'a>(
     )
 }
 
-// The state of lent columns keeps its rules, whatever its counters; the lengths that were asked are handed back. Slices, since a
+// The state of lent columns keeps its rules; the lengths that were asked are handed back. Slices, since a
 // caller that lends an array as one learns its length.
 // internal: for the steps, which lend the columns of their state.
 pub fn lent_keeps<'a>(
@@ -66,27 +67,29 @@ pub fn lent_keeps<'a>(
     latching: &'a [u8],
     argcounts: &'a [u8],
     args: &'a [u8],
-    arm: Arm,
+    standing: Standing,
     states: &'a [u8],
 ) -> bool
     requires { ⌜ LentSized
-        (configFrom numbers (now routeids) (now dests) (now protected) (now faultids) (now responses) (now latching) (now argcounts) (now args)) (now states) ⌝ }
+        (configFrom numbers (now routeids) (now dests) (now protected) (now faultids)
+        (now responses) (now latching) (now argcounts) (now args))
+        (now states) ⌝ }
     ensures { λ r. ⌜ Judged
         (configFrom numbers (now (routeids .entry)) (now (dests .entry)) (now (protected .entry)) (now (faultids .entry))
         (now (responses .entry)) (now (latching .entry)) (now (argcounts .entry)) (now (args .entry)))
-        arm (now (states .entry)) r ⌝ }
+        standing (now (states .entry)) r ⌝ }
 {
     if !counts_ok(numbers.nroutes, numbers.nprotected, numbers.nrows) {
         return false;
     }
-    if !arm_ok(arm.armed, arm.ticks) {
+    if !arm_ok(standing.arm.armed, standing.arm.ticks) {
         return false;
     }
-    if !rules::basics_ok(numbers.ground, numbers.fault, numbers.base) {
+    if !rules::settings_ok(numbers.settings) {
         return false;
     }
     if !routes_judged(
-        numbers.base,
+        numbers.settings.base,
         routeids,
         dests,
         numbers.nroutes,
@@ -121,7 +124,6 @@ pub fn lent_keeps<'a>(
 pub fn keeps_rules(config: Config, run: Run) -> bool
     ensures { λ r. ⌜ r ≡ keepsRules config run ⌝ }
 {
-    let arm = run.arm;
     lent_keeps(
         config.numbers,
         &config.routeids,
@@ -132,7 +134,7 @@ pub fn keeps_rules(config: Config, run: Run) -> bool
         &config.latching,
         &config.argcounts,
         &config.args,
-        arm,
+        run.standing,
         &run.states,
     )
 }

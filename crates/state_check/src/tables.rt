@@ -16,14 +16,14 @@ ghost use Prim.Native.Nat.{_*_, _≤_};
 ghost use lib.ListN.{length, take, drop};
 ghost use Rattle.state.specs.Tables.{listed, routeAt};
 ghost use Rattle.state.specs.Lookup.{Column};
-ghost use Rattle.state.specs.Test.{clear, argsClear, routesKept, protectedKept, rowsKept, statesOk};
-ghost use Rattle.state_check.specs.TableParts.{bare};
+ghost use Rattle.state.specs.Test.{allZero, argsZero, routesKept, protectedKept, rowsKept, statesOk};
+ghost use Rattle.state_check.specs.TableParts.{argless};
 
 // At most 16 arguments in each of n rows, and zero behind them and behind the last row.
 // internal: for the judge of a state, which has seen that the counts are within their limits.
 pub(crate) fn args_keep<'a>(counts: &'a [u8], n: usize, args: &'a [u8]) -> bool
     requires { ⌜ (n ≤ length (now counts)) × (16 * n ≤ length (now args)) ⌝ }
-    ensures { λ r. ⌜ r ≡ argsClear (take n (now (counts .entry))) (now (args .entry)) ⌝ }
+    ensures { λ r. ⌜ r ≡ argsZero (take n (now (counts .entry))) (now (args .entry)) ⌝ }
 {
     let mut k = 0;
     while k < n {
@@ -89,7 +89,7 @@ pub(crate) fn rows_keep<'a>(
     m: usize,
 ) -> bool
     requires { ⌜ Column 128 (now ids) n × (m ≤ length (now faultids)) × (m ≤ length (now responses)) × (m ≤ length (now latching)) ⌝ }
-    ensures { λ r. ⌜ r ≡ rowsKept (take n (now (ids .entry))) (bare (now (faultids .entry)) (now (responses .entry)) (now (latching .entry)) m) ⌝ }
+    ensures { λ r. ⌜ r ≡ rowsKept (take n (now (ids .entry))) (argless (now (faultids .entry)) (now (responses .entry)) (now (latching .entry)) m) ⌝ }
 {
     if !rising(faultids, m) {
         return false;
@@ -110,8 +110,8 @@ pub(crate) fn rows_keep<'a>(
 // A state for each of n rows, and zero behind them.
 // internal: for the judge of a state, which has seen that the counts are within their limits and that zero stands behind.
 pub(crate) fn states_keep<'a>(latching: &'a [u8], n: usize, states: &'a [u8]) -> bool
-    requires { ⌜ (n ≤ length (now latching)) × (n ≤ length (now states)) × (clear (drop n (now states)) ≡ true) ⌝ }
-    ensures { λ r. ⌜ r ≡ statesOk (bare [] [] (now (latching .entry)) n) (now (states .entry)) ⌝ }
+    requires { ⌜ (n ≤ length (now latching)) × (n ≤ length (now states)) × (allZero (drop n (now states)) ≡ true) ⌝ }
+    ensures { λ r. ⌜ r ≡ statesOk (argless [] [] (now (latching .entry)) n) (now (states .entry)) ⌝ }
 {
     let mut ok = true;
     let mut k = 0;

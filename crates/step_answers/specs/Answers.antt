@@ -40,7 +40,7 @@ answerFor routedIds protected faultIds armed id k args =
 
 abbrev pub answerTo : Tables → Bool → ℕ → List ℕ → ℕ
 answerTo t armed id args =
-    answerFor (routed t) (t .protected) (map faultId (t .rows)) armed id (ownCommand (t .base) id) args
+    answerFor (routed t) (t .protected) (map faultId (t .rows)) armed id (ownCommand (t .settings .base) id) args
 
 -- a fault, by the place that its id means: 34 not in the table, 13 its response disabled or latched, else 10
 unfoldable pub faultAnswer : List ℕ → Option ℕ → ℕ

@@ -104,8 +104,8 @@ fn show(name: &[u8], s: Stepped) {
         s.answer.written as u64,
     );
     let n = text::put(&mut out, n, b"armed ");
-    let n = text::put_number(&mut out, n, run.arm.armed as u64, b' ');
-    let n = text::put_number(&mut out, n, run.arm.ticks as u64, b' ');
+    let n = text::put_number(&mut out, n, run.standing.arm.armed as u64, b' ');
+    let n = text::put_number(&mut out, n, run.standing.arm.ticks as u64, b' ');
     let n = text::put(&mut out, n, b"row ");
     let n = text::put_number(&mut out, n, wide(first), b' ');
     io::write_all(1, text::first(&out, n));
@@ -130,7 +130,7 @@ fn show_counts(c: Counts) {
 fn line(name: &[u8], s: Stepped) {
     show(name, s);
     let run = s.run;
-    show_counts(run.counts);
+    show_counts(run.standing.counts);
 }
 
 // Output room 260 serves, 259 and 0 give 21.

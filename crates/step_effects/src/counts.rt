@@ -7,7 +7,7 @@ ghost use Prim.Native.Nat.{_<_};
 ghost use Rattle.step_effects.specs.Counters.{up, movedCounts, faultCounts};
 
 // One more where the test holds.
-pub fn bump(b: bool, x: u16) -> u16
+fn bump(b: bool, x: u16) -> u16
     ensures { λ r. ⌜ r ≡ up b x ⌝ }
 {
     if b {

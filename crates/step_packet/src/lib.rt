@@ -1,5 +1,5 @@
 // The packet step of a state that keeps its rules. The columns that it looks at are lent, and so are the fault states, which
-// change where they stand; the counters are for the caller. Every way out returns by itself.
+// change where they stand; the counters are for the caller. Every way out of what is decided returns by itself.
 use state::types::Arm;
 use state::types::Numbers;
 use step_answers::own;
@@ -9,6 +9,7 @@ use step_arm::after_packet;
 use step_effects::dispatch;
 use step_effects::faults;
 use step_rules::types;
+use step_rules::types::Decision;
 use step_rules::types::Moved;
 ghost use mathlib.Core.List.{List};
 ghost use Prim.Native.Nat.{ℕ, _≤_, _<_};
@@ -20,7 +21,7 @@ ghost use Rattle.step_effects.specs.Dispatch.{stepRoom};
 ghost use Rattle.step_answers.specs.Own.{ruleOf};
 ghost use Rattle.step_answers.specs.Answers.{blocked};
 ghost use Rattle.step_answers.specs.AnswerLaws.{Lent};
-ghost use Rattle.step_rules.specs.Moved.{StatesLent, quietly, rejectedBy, OwnMoves, RowMoves, PacketMoves};
+ghost use Rattle.step_rules.specs.Moved.{StatesLent, quietly, rejectedBy, OwnMoves, RowMoves, PacketDecided, PacketMoves};
 
 // A rejected packet: the arm record stays.
 fn rejected(arm: Arm, n: u8) -> Moved
@@ -100,8 +101,61 @@ fn own_step(
     }
 }
 
-// The step, with room in the output. The arguments are handed on as the part of the packet from byte 10. What it does is said of
-// every configuration with these columns: of the fault rows it sees the ids alone.
+// What a packet comes to before anything is sent on, and all that it changes: a command that is to be sent on is answered 10
+// here, with its destination and its bytes, and the arm record behind it. The arguments are handed on as the part of the packet
+// from byte 10. What it does is said of every configuration with these columns: of the fault rows it sees the ids alone.
+// internal: for the steps that send a command on, each in its own way.
+pub fn decided<'a>(
+    numbers: Numbers,
+    routeids: &'a [u16; 128],
+    dests: &'a [u8; 128],
+    protected: &'a [u16; 32],
+    faultids: &'a [u16; 32],
+    arm: Arm,
+    states: &mut [u8; 32],
+    packet: &[u8],
+) -> Decision
+    requires { ⌜ Lent numbers (now routeids) (now dests) (now protected) (now faultids) × StatesLent (now states) ⌝ }
+    ensures { λ r. ⌜ ((responses latching argcounts args : List ℕ)
+        → PacketDecided
+        (configFrom numbers (now (routeids .entry)) (now (dests .entry)) (now (protected .entry)) (now (faultids .entry)) responses latching argcounts args)
+        arm (now (states .entry)) (now (packet .entry)) r (now (states .exit))) ⌝ }
+{
+    let refusal = packet_judge::judge::refusal(packet);
+    if refusal != 0 {
+        return types::decision_of(rejected(arm, refusal), false);
+    }
+    let id = packet_judge::judge::command_id(packet);
+    let args = packet_judge::enquiry::accepted_part(packet);
+    if is_blocked(protected, numbers.nprotected, arm.armed, id) {
+        return types::decision_of(quiet(arm, 30, id, args, false), false);
+    }
+    let selection = own::selected(numbers.settings.base, id);
+    if let Selection::Command(command, wanted) = selection {
+        let m = own_step(
+            faultids,
+            numbers.nrows,
+            arm,
+            states,
+            command,
+            wanted,
+            id,
+            args,
+        );
+        return types::decision_of(m, false);
+    }
+    let at = state_lookup::place(routeids, numbers.nroutes, state_lookup::ROUTES, id);
+    if at >= numbers.nroutes {
+        return types::decision_of(quiet(arm, 33, id, args, false), false);
+    }
+    let answer = types::dispatched(id, dests[at], 5 + args.len() as u16);
+    types::decision_of(
+        types::moved_of(after_packet(arm, 10, args), false, answer),
+        true,
+    )
+}
+
+// The step, with room in the output: what was decided, and a command that is sent on is written.
 // internal: for the steps that judge their state, and for a loop that judges its state once.
 pub fn inner_packet<'a>(
     numbers: Numbers,
@@ -120,33 +174,21 @@ pub fn inner_packet<'a>(
         (configFrom numbers (now (routeids .entry)) (now (dests .entry)) (now (protected .entry)) (now (faultids .entry)) responses latching argcounts args)
         arm (now (states .entry)) (now (packet .entry)) (now (out .entry)) r (now (states .exit)) (now (out .exit))) ⌝ }
 {
-    let refusal = packet_judge::judge::refusal(packet);
-    if refusal != 0 {
-        return rejected(arm, refusal);
+    let d = decided(
+        numbers,
+        routeids,
+        dests,
+        protected,
+        faultids,
+        arm,
+        states,
+        packet,
+    );
+    let m = d.moved;
+    if d.sends {
+        let id = packet_judge::judge::command_id(packet);
+        let args = packet_judge::enquiry::accepted_part(packet);
+        dispatch::write(out, numbers.settings.ground, id, args);
     }
-    let id = packet_judge::judge::command_id(packet);
-    let args = packet_judge::enquiry::accepted_part(packet);
-    if is_blocked(protected, numbers.nprotected, arm.armed, id) {
-        return quiet(arm, 30, id, args, false);
-    }
-    let selection = own::selected(numbers.base, id);
-    if let Selection::Command(command, wanted) = selection {
-        return own_step(
-            faultids,
-            numbers.nrows,
-            arm,
-            states,
-            command,
-            wanted,
-            id,
-            args,
-        );
-    }
-    let at = state_lookup::place(routeids, numbers.nroutes, state_lookup::ROUTES, id);
-    if at >= numbers.nroutes {
-        return quiet(arm, 33, id, args, false);
-    }
-    let written = dispatch::write(out, numbers.ground, id, args);
-    let answer = types::dispatched(id, dests[at], written);
-    types::moved_of(after_packet(arm, 10, args), false, answer)
+    m
 }

@@ -11,7 +11,7 @@ use Rattle.packet_rules.specs.Rejection.{isRejection}
 use Rattle.state.specs.declared.types.Config.{Config}
 use Rattle.state.specs.declared.types.Run.{Run}
 use Rattle.state.specs.declared.types.Counts.{Counts}
-use Rattle.state.specs.Tables.{Tables, tablesOf, withCounts}
+use Rattle.state.specs.Tables.{Tables, tablesOf, runCounted}
 use Rattle.state.specs.Test.{keepsRules}
 use Rattle.step_rules.specs.declared.types.Stepped.{Stepped}
 use Rattle.step_effects.specs.FaultStates.{enabled, meant, rowFor, stateFor}
@@ -83,7 +83,7 @@ module _ (c : Config) (run : Run) (p : List ℕ) (room : ℕ) where
   packet-20-broken = only-broken (packetStepOf c run p room) (packet-steps c run p room)
 
   -- a rejected packet moves only the rejected count
-  only-r : (r : Stepped) → PacketSteps c run p room r → isRejection (r .answer .answer) ≡ true → r .run ≡ withCounts (rejectedCounts (run .counts)) run
+  only-r : (r : Stepped) → PacketSteps c run p room r → isRejection (r .answer .answer) ≡ true → r .run ≡ runCounted (rejectedCounts (run .standing .counts)) run
   unfolding rejectedStep
   only-r r (outcome.breaks e) h = absurd (false≢true h)
   only-r r (outcome.cramped e q) h = absurd (false≢true h)
@@ -91,7 +91,7 @@ module _ (c : Config) (run : Run) (p : List ℕ) (room : ℕ) where
   only-r r (outcome.does e q a n o) h = absurd (false≢true (sym (rejected-not n h) ∙ answered-accepted o))
 
   pub rejected-moves-only-r : isRejection (packetStepOf c run p room .answer .answer) ≡ true
-      → packetStepOf c run p room .run ≡ withCounts (rejectedCounts (run .counts)) run
+      → packetStepOf c run p room .run ≡ runCounted (rejectedCounts (run .standing .counts)) run
   rejected-moves-only-r = only-r (packetStepOf c run p room) (packet-steps c run p room)
 
 -- R by one, modulo 65,536, and the six others stay
@@ -121,12 +121,12 @@ module _ (c : Config) (run : Run) (f room : ℕ) where
   fault-20-broken = only-broken-f (faultStepOf c run f room) (fault-steps c run f room)
 
   -- a fault leaves the arm record, whatever its answer
-  same-arm : (r : Stepped) → FaultSteps c run f room r → r .run .arm ≡ run .arm
+  same-arm : (r : Stepped) → FaultSteps c run f room r → r .run .standing .arm ≡ run .standing .arm
   same-arm r (outcome.breaks e) = refl
   same-arm r (outcome.cramped e q) = refl
   same-arm r (outcome.does e q n o) = refl
 
-  pub fault-leaves-arm : faultStepOf c run f room .run .arm ≡ run .arm
+  pub fault-leaves-arm : faultStepOf c run f room .run .standing .arm ≡ run .standing .arm
   fault-leaves-arm = same-arm (faultStepOf c run f room) (fault-steps c run f room)
 
   -- only a fault that is answered 10 may change a fault state
@@ -163,7 +163,7 @@ module _ (c : Config) (run : Run) where
   only-broken-t : (r : Stepped) → TickSteps c run r → r .answer .answer ≡ 20 → (keepsRules c run ≡ false) × (r ≡ unchanged run 20)
   unfolding tickStep tickAnswer
   only-broken-t r (outcome.breaks e) h = (e, refl)
-  only-broken-t r (outcome.does e) h = absurd (go (run .arm .armed && eqb (run .arm .ticks) 1) h)
+  only-broken-t r (outcome.does e) h = absurd (go (run .standing .arm .armed && eqb (run .standing .arm .ticks) 1) h)
     where
       go : (b : Bool) → _≡_ {A = ℕ} (cond b 15 14) 20 → ⊥
       go true h = omega arith
@@ -180,12 +180,12 @@ module _ (c : Config) (run : Run) where
   tick-refused-changes-nothing h = ap (λ (s : Stepped). s .run) (tick-refused-unchanged h)
 
   -- a tick leaves the counters and the fault states, whatever its answer
-  keeps-rest : (r : Stepped) → TickSteps c run r → (r .run .counts ≡ run .counts) × (r .run .states ≡ run .states)
+  keeps-rest : (r : Stepped) → TickSteps c run r → (r .run .standing .counts ≡ run .standing .counts) × (r .run .states ≡ run .states)
   unfolding tickStep
   keeps-rest r (outcome.breaks e) = (refl, refl)
   keeps-rest r (outcome.does e) = (refl, refl)
 
-  pub tick-leaves-rest : (tickStepOf c run .run .counts ≡ run .counts) × (tickStepOf c run .run .states ≡ run .states)
+  pub tick-leaves-rest : (tickStepOf c run .run .standing .counts ≡ run .standing .counts) × (tickStepOf c run .run .states ≡ run .states)
   tick-leaves-rest = keeps-rest (tickStepOf c run) (tick-steps c run)
 
 -- ---- any answer but 10 changes no output byte

@@ -67,7 +67,7 @@ module _ (c : Config) (run : Run) (p : List ℕ) (room : ℕ) where
   -- ---- a dispatched packet: let past, no own id, routed; its id, its route's destination, 5 + count bytes
 
   pub record Dispatched (r : Stepped) : Type 0 where
-    pub let-past : blocked (tablesOf c .protected) (run .arm .armed) (commandId p) ≡ false
+    pub let-past : blocked (tablesOf c .protected) (run .standing .arm .armed) (commandId p) ≡ false
     pub is-routed : member (commandId p) (routed (tablesOf c)) ≡ true
     pub id-is : r .answer .id ≡ commandId p
     pub dest-is : r .answer .dest ≡ destOf (commandId p) (tablesOf c .routes)
@@ -91,7 +91,7 @@ module _ (c : Config) (run : Run) (p : List ℕ) (room : ℕ) where
   dispatched = dispatched-as (packetStepOf c run p room) (packet-steps c run p room)
 
   -- a protected command from a packet that finds the path unarmed is never dispatched
-  pub unarmed-never-dispatched : run .arm .armed ≡ false → member (commandId p) (tablesOf c .protected) ≡ true → packetStepOf c run p room .answer .answer ≡ 10 → ⊥
+  pub unarmed-never-dispatched : run .standing .arm .armed ≡ false → member (commandId p) (tablesOf c .protected) ≡ true → packetStepOf c run p room .answer .answer ≡ 10 → ⊥
   unfolding blocked
   unarmed-never-dispatched u m h = let d = simp (u, m) at (dispatched h .let-past) in let z : _≡_ {A = ℕ} 0 1 = cc d in omega arith
 
@@ -118,14 +118,14 @@ carries source id args out =
     })
 
 -- a packet's command carries the ground source, the packet's own id and its own arguments
-pub packet-carries : (t : Tables) (p out : List ℕ) → Carries (t .ground) (commandId p) (argumentsOf p) out (packetOutput t 10 p out)
+pub packet-carries : (t : Tables) (p out : List ℕ) → Carries (t .settings .ground) (commandId p) (argumentsOf p) out (packetOutput t 10 p out)
 unfolding packetOutput
-packet-carries t p out = carries (t .ground) (commandId p) (argumentsOf p) out
+packet-carries t p out = carries (t .settings .ground) (commandId p) (argumentsOf p) out
 
 -- a response carries the fault source, the row's own command id and its own arguments
-pub fault-carries : (t : Tables) (f : ℕ) (out : List ℕ) → let row = rowFor (meant t f) (t .rows) in Carries (t .fault) (row .response) (row .args) out (faultOutput t 10 f out)
+pub fault-carries : (t : Tables) (f : ℕ) (out : List ℕ) → let row = rowFor (meant t f) (t .rows) in Carries (t .settings .fault) (row .response) (row .args) out (faultOutput t 10 f out)
 unfolding faultOutput
-fault-carries t f out = let row = rowFor (meant t f) (t .rows) in carries (t .fault) (row .response) (row .args) out
+fault-carries t f out = let row = rowFor (meant t f) (t .rows) in carries (t .settings .fault) (row .response) (row .args) out
 
 -- ---- a dispatched fault: its id means a row, which is enabled; that row's response, its route's destination, 5 + count bytes
 
@@ -166,7 +166,7 @@ module _ (c : Config) (run : Run) (f room : ℕ) where
 
 -- fault responses pass even for a protected id: the protected ids have no part in a fault step
 abbrev pub withProtected : List ℕ → Tables → Tables
-withProtected ids t = record { ground = t .ground; fault = t .fault; base = t .base; routes = t .routes; protected = ids; rows = t .rows }
+withProtected ids t = record { settings = t .settings; routes = t .routes; protected = ids; rows = t .rows }
 
 pub protection-not-asked : (t : Tables) (ids : List ℕ) (run : Run) (f : ℕ) → faultStep (withProtected ids t) run f ≡ faultStep t run f
 unfolding faultStep

@@ -37,12 +37,12 @@ pads-are-in-the-xor a = xor-with-pads a
 
 -- "Letting a rejected packet unarm"
 pub rejected-leaves-arm : (c : Config) (run : Run) (p : List ℕ) (room : ℕ) → isRejection (packetStepOf c run p room .answer .answer) ≡ true
-    → packetStepOf c run p room .run .arm ≡ run .arm
-rejected-leaves-arm c run p room h = ap (λ (r : Run). r .arm) (rejected-moves-only-r c run p room h)
+    → packetStepOf c run p room .run .standing .arm ≡ run .standing .arm
+rejected-leaves-arm c run p room h = ap (λ (r : Run). r .standing .arm) (rejected-moves-only-r c run p room h)
 
 -- ".. or letting an unregistered id stay armed": every accepted packet but an arm that was taken leaves the path unarmed
 module _ (c : Config) (run : Run) (p : List ℕ) (room : ℕ) where
-  unarms : (r : Stepped) → PacketSteps c run p room r → isAccepted (r .answer .answer) ≡ true → (r .answer .answer ≡ 11 → ⊥) → r .run .arm ≡ unarmed
+  unarms : (r : Stepped) → PacketSteps c run p room r → isAccepted (r .answer .answer) ≡ true → (r .answer .answer ≡ 11 → ⊥) → r .run .standing .arm ≡ unarmed
   unfolding rejectedStep armAfter armSet
   unarms r (outcomes.breaks e) h z = absurd (false≢true h)
   unarms r (outcomes.cramped e q) h z = absurd (false≢true h)
@@ -50,13 +50,13 @@ module _ (c : Config) (run : Run) (p : List ℕ) (room : ℕ) where
   unarms r (outcomes.does e q a n o) h z = simp (ne-eqb n 11 z)
 
   pub accepted-unarms : isAccepted (packetStepOf c run p room .answer .answer) ≡ true
-      → (packetStepOf c run p room .answer .answer ≡ 11 → ⊥) → packetStepOf c run p room .run .arm ≡ unarmed
+      → (packetStepOf c run p room .answer .answer ≡ 11 → ⊥) → packetStepOf c run p room .run .standing .arm ≡ unarmed
   accepted-unarms = unarms (packetStepOf c run p room) (packet-steps c run p room)
 
 -- "Testing the timeout before the tick's subtraction, one tick late": the tick that takes the last one ends it
-pub last-tick-ends : (run : Run) → run .arm .armed ≡ true → run .arm .ticks ≡ 1 → (tickStep run .answer .answer ≡ 15) × (tickStep run .run .arm ≡ unarmed)
+pub last-tick-ends : (run : Run) → run .standing .arm .armed ≡ true → run .standing .arm .ticks ≡ 1 → (tickStep run .answer .answer ≡ 15) × (tickStep run .run .standing .arm ≡ unarmed)
 unfolding tickStep tickAnswer
-last-tick-ends run a e = (simp (a, e), ap (λ (t : Ticked). t .arm) (sym (tick-last (run .arm .armed) (run .arm .ticks) a (λ z. omega arith) e)))
+last-tick-ends run a e = (simp (a, e), ap (λ (t : Ticked). t .arm) (sym (tick-last (run .standing .arm .armed) (run .standing .arm .ticks) a (λ z. omega arith) e)))
 
 -- "Checking a protected own command's length before its protection": 30, whatever the arguments
 pub protection-before-length : (t : Tables) (id : ℕ) (args : List ℕ) → blocked (t .protected) false id ≡ true → answerTo t false id args ≡ 30

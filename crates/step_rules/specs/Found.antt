@@ -1,5 +1,5 @@
--- What a lookup in the tables of a state that keeps its rules says of the fault id that was looked up: the place that it means,
--- and the row there.
+-- What a lookup in lent columns says of the fault id that was looked up: the place that it means, and the row there; and what a
+-- state that keeps its rules may lend.
 use mathlib.Core.Path.{_≡_}
 use mathlib.Core.Bool.{true}
 use mathlib.Core.Option.{none, some}
@@ -14,7 +14,7 @@ use Rattle.state.specs.Rules.{member}
 use Rattle.state.specs.Keeps.{Each, RowOk, Keeps}
 use Rattle.state.specs.KeepsLaws.{member-kept}
 use Rattle.state.specs.Sized.{Sized}
-use Rattle.state.specs.Lookup.{placeIn}
+use Rattle.state.specs.Lookup.{placeIn, Slots}
 use Rattle.state.specs.ArrayLaws.{listed-at, rows-count, fault-ids-are, routed-is}
 use Rattle.state.specs.Columns.{route-column, protected-column, fault-column}
 use Rattle.step_effects.specs.FaultStates.{noRow, meant}
@@ -26,6 +26,29 @@ each-at P d [] h i l = absurd (omega arith)
 each-at P d (x ∷ xs) h zero l = h .0
 each-at P d (x ∷ xs) h (suc i) l = each-at P d xs (h .1) i (omega arith)
 
+module _ (c : Config) where
+  abbrev rows : List FaultRow
+  rows = tablesOf c .rows
+
+  -- the row at a place in use
+  pub row-here : (place : ℕ) → place < c .numbers .nrows
+      → getD rows place noRow ≡ rowAt (c .faultids) (c .responses) (c .latching) (c .argcounts) (c .args) place
+  row-here place h = listed-at (rowAt (c .faultids) (c .responses) (c .latching) (c .argcounts) (c .args)) noRow (c .numbers .nrows) place h
+
+  -- the fault ids are lent
+  module _ (s : Slots 32 (c .faultids) (c .numbers .nrows)) where
+    pub ids-are : map faultId rows ≡ take (c .numbers .nrows) (c .faultids)
+    ids-are = fault-ids-are c (omega (arith, s .long, s .within))
+
+    -- the fault id f was found at a place, or not
+    module _ (f place : ℕ) (e : place ≡ placeIn f (take (c .numbers .nrows) (c .faultids))) where
+      pub unknown : c .numbers .nrows ≤ place → meant (tablesOf c) f ≡ none
+      unknown h = rw ids-are (place-past s f place e h)
+
+      pub known : place < c .numbers .nrows → meant (tablesOf c) f ≡ some place
+      known h = rw ids-are (place-below s f place e h)
+
+-- a state that keeps its rules
 module _ {c : Config} {run : Run} (k : Keeps c run) (s : Sized c) where
   -- the arrays as they are lent
   pub lend : Lent (c .numbers) (c .routeids) (c .dests) (c .protected) (c .faultids)
@@ -37,28 +60,10 @@ module _ {c : Config} {run : Run} (k : Keeps c run) (s : Sized c) where
         fault-ids = fault-column k s;
       }
 
-  abbrev rows : List FaultRow
-  rows = tablesOf c .rows
-
-  pub ids-are : map faultId rows ≡ take (c .numbers .nrows) (c .faultids)
-  ids-are = let f = fault-column k s in fault-ids-are c (omega (arith, f .slots .long, f .slots .within))
-
-  -- the row at a place in use, and its response, which is routed
-  module _ (place : ℕ) (h : place < c .numbers .nrows) where
-    pub row-here : getD rows place noRow ≡ rowAt (c .faultids) (c .responses) (c .latching) (c .argcounts) (c .args) place
-    row-here = listed-at (rowAt (c .faultids) (c .responses) (c .latching) (c .argcounts) (c .args)) noRow (c .numbers .nrows) place h
-
-    pub responds : member (getD (c .responses) place 0) (take (c .numbers .nroutes) (c .routeids)) ≡ true
-    responds =
-        let l : place < length rows = omega (arith, rows-count c) in
-        let ok = each-at (RowOk (routed (tablesOf c))) noRow rows (k .rules .rows-ok) place l in
-        let r = route-column k s in
-        rw (row-here, routed-is c (omega (arith, r .slots .long, r .slots .within))) at (member-kept (ok .response-routed))
-
-  -- the fault id f was found at a place, or not
-  module _ (f place : ℕ) (e : place ≡ placeIn f (take (c .numbers .nrows) (c .faultids))) where
-    pub unknown : c .numbers .nrows ≤ place → meant (tablesOf c) f ≡ none
-    unknown h = rw ids-are (place-past (fault-column k s .slots) f place e h)
-
-    pub known : place < c .numbers .nrows → meant (tablesOf c) f ≡ some place
-    known h = rw ids-are (place-below (fault-column k s .slots) f place e h)
+  -- the response of a row in use is routed
+  pub responds : (place : ℕ) → place < c .numbers .nrows → member (getD (c .responses) place 0) (take (c .numbers .nroutes) (c .routeids)) ≡ true
+  responds place h =
+      let l : place < length (rows c) = omega (arith, rows-count c) in
+      let ok = each-at (RowOk (routed (tablesOf c))) noRow (rows c) (k .rules .rows-ok) place l in
+      let r = route-column k s in
+      rw (row-here c place h, routed-is c (omega (arith, r .slots .long, r .slots .within))) at (member-kept (ok .response-routed))

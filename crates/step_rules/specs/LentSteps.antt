@@ -1,96 +1,80 @@
 -- The steps on any state where the columns and the fault states are lent: what such a step leaves, with the fault states that it
 -- leaves, is the step of document 01 on the configuration and the run that they are. Each way of one, by the inner step.
-use mathlib.Core.Path.{_≡_, refl, sym, ap, _∙_}
+use mathlib.Core.Path.{_≡_, refl, _∙_}
 use mathlib.Core.Bool.{true, false}
 use mathlib.Core.List.{List}
 use Prim.Native.Nat.{ℕ, _<_, _≤_}
 use lib.ListN.{length}
 use Rattle.state.specs.declared.types.Config.{Config}
 use Rattle.state.specs.declared.types.Run.{Run}
-use Rattle.state.specs.declared.types.Arm.{Arm}
 use Rattle.state.specs.declared.types.Counts.{Counts}
-use Rattle.state.specs.Tables.{tablesOf, runFrom}
+use Rattle.state.specs.declared.types.Standing.{Standing}
+use Rattle.state.specs.Tables.{tablesOf, withArm, withCounts}
 use Rattle.state.specs.Test.{keepsRules}
-use Rattle.state.specs.KeepsLaws.{keeps}
-use Rattle.state.specs.Sized.{Sized}
 use Rattle.step_effects.specs.Dispatch.{stepRoom}
 use Rattle.step_arm.specs.declared.Ticked.{Ticked}
 use Rattle.step_arm.specs.Arming.{tickedBy}
 use Rattle.step_effects.specs.Counters.{movedCounts, faultCounts}
 use Rattle.step_rules.specs.declared.types.Answer.{Answer}
-use Rattle.step_rules.specs.declared.types.Stepped.{Stepped}
 use Rattle.step_rules.specs.declared.types.Moved.{Moved}
 use Rattle.step_rules.specs.declared.types.Left.{Left}
 use Rattle.step_rules.specs.Makers.{bareAnswer, leftFrom, leftAs, stepLeft}
-use Rattle.step_rules.specs.Step.{judged, tickStep, packetOutput, faultOutput, packetStepOf, faultStepOf, tickStepOf}
+use Rattle.step_rules.specs.Step.{packetStep, faultStep, packetOutput, faultOutput, packetStepOf, faultStepOf, tickStepOf}
 use Rattle.step_rules.specs.StepLaws.{judged-20, judged-21, judged-on, packet-unsent, tick-20, tick-on}
 use Rattle.step_rules.specs.FaultStepLaws.{fault-unsent}
 use Rattle.step_rules.specs.Moved.{PacketMoves, FaultMoves}
+use Rattle.step_rules.specs.MovedOn.{packet-moved, tick-moved, fault-moved}
 
--- a step that comes to `whole` and writes by its answer: what it leaves, and what it leaves of the output
-pub record Leaves (whole : Stepped) (writes : ℕ → List ℕ) (l : Left) (states left : List ℕ) : Type 0 where
-  pub step : stepLeft l states ≡ whole
-  pub output : left ≡ writes (l .answer .answer)
+-- a packet: what it leaves, and what it leaves of the output
+pub record PacketLeaves (c : Config) (run : Run) (p out : List ℕ) (l : Left) (states left : List ℕ) : Type 0 where
+  pub step : stepLeft l states ≡ packetStepOf c run p (length out)
+  pub output : left ≡ packetOutput (tablesOf c) (l .answer .answer) p out
 
-abbrev pub PacketLeaves : Config → Run → List ℕ → List ℕ → Left → List ℕ → List ℕ → Type 0
-PacketLeaves c s p out = Leaves (packetStepOf c s p (length out)) (λ n. packetOutput (tablesOf c) n p out)
-
-abbrev pub FaultLeaves : Config → Run → ℕ → List ℕ → Left → List ℕ → List ℕ → Type 0
-FaultLeaves c s f out = Leaves (faultStepOf c s f (length out)) (λ n. faultOutput (tablesOf c) n f out)
+-- a fault
+pub record FaultLeaves (c : Config) (run : Run) (f : ℕ) (out : List ℕ) (l : Left) (states left : List ℕ) : Type 0 where
+  pub step : stepLeft l states ≡ faultStepOf c run f (length out)
+  pub output : left ≡ faultOutput (tablesOf c) (l .answer .answer) f out
 
 -- ---- a state that breaks its rules, too little room, or the inner step
 
-module _ (c : Config) (arm : Arm) (counts : Counts) (states : List ℕ) where
-  abbrev run : Run
-  run = runFrom arm counts states
+module _ {c : Config} {run : Run} {p out : List ℕ} where
+  pub packet-breaks : keepsRules c run ≡ false → PacketLeaves c run p out (leftAs (run .standing) 20) (run .states) out
+  unfolding packetStepOf
+  packet-breaks k = record { step = judged-20 c run (length out) (packetStep (tablesOf c) run p) k; output = packet-unsent (tablesOf c) p out 20 20 refl refl }
 
-  module _ (out : List ℕ) (inner : Stepped) (writes : ℕ → List ℕ) where
-    breaks : out ≡ writes 20 → keepsRules c run ≡ false → Leaves (judged c run (length out) inner) writes (leftAs arm counts 20) states out
-    breaks u k = record { step = judged-20 c run (length out) inner k; output = u }
-
-    cramped : out ≡ writes 21 → keepsRules c run ≡ true → length out < stepRoom → Leaves (judged c run (length out) inner) writes (leftAs arm counts 21) states out
-    cramped u k h = record { step = judged-21 c run (length out) inner k h; output = u }
-
-    does : keepsRules c run ≡ true → stepRoom ≤ length out → (l : Left) (after left : List ℕ) → stepLeft l after ≡ inner → left ≡ writes (l .answer .answer)
-        → Leaves (judged c run (length out) inner) writes l after left
-    does k h l after left e o = record { step = e ∙ judged-on c run (length out) inner k h; output = o }
-
-  module _ (p out : List ℕ) where
-    pub packet-breaks : keepsRules c run ≡ false → PacketLeaves c run p out (leftAs arm counts 20) states out
+  module _ (k : keepsRules c run ≡ true) where
+    pub packet-cramped : length out < stepRoom → PacketLeaves c run p out (leftAs (run .standing) 21) (run .states) out
     unfolding packetStepOf
-    packet-breaks = breaks out _ _ (packet-unsent (tablesOf c) p out 20 20 refl refl)
+    packet-cramped h = record { step = judged-21 c run (length out) (packetStep (tablesOf c) run p) k h; output = packet-unsent (tablesOf c) p out 21 21 refl refl }
 
-    module _ (k : keepsRules c run ≡ true) where
-      pub packet-cramped : length out < stepRoom → PacketLeaves c run p out (leftAs arm counts 21) states out
-      unfolding packetStepOf
-      packet-cramped = cramped out _ _ (packet-unsent (tablesOf c) p out 21 21 refl refl) k
+    pub packet-leaves : stepRoom ≤ length out → {m : Moved} {after left : List ℕ} → PacketMoves c (run .standing .arm) (run .states) p out m after left
+        → {k : Counts} {counted next : Standing} → k ≡ movedCounts (m .answer .answer) (m .reset) (run .standing .counts)
+        → counted ≡ withCounts k (run .standing) → next ≡ withArm (m .arm) counted
+        → PacketLeaves c run p out (leftFrom next (m .answer)) after left
+    unfolding packetStepOf
+    packet-leaves h moves ek ec en = record { step = packet-moved (run .standing) moves ek ec en ∙ judged-on c run (length out) (packetStep (tablesOf c) run p) k h; output = moves .output }
 
-      pub packet-leaves : stepRoom ≤ length out → (m : Moved) (after left : List ℕ) (next : Counts) → PacketMoves c arm states p out m after left → next ≡ movedCounts (m .answer .answer) (m .reset) counts
-          → PacketLeaves c run p out (leftFrom (m .arm) next (m .answer)) after left
-      unfolding packetStepOf
-      packet-leaves h m after left next moves e = does out _ _ k h _ after left (rw e (moves .step counts)) (moves .output)
+module _ {c : Config} {run : Run} {f : ℕ} {out : List ℕ} where
+  pub fault-breaks : keepsRules c run ≡ false → FaultLeaves c run f out (leftAs (run .standing) 20) (run .states) out
+  unfolding faultStepOf
+  fault-breaks k = record { step = judged-20 c run (length out) (faultStep (tablesOf c) run f) k; output = fault-unsent (tablesOf c) f out 20 20 refl refl }
 
-  module _ (f : ℕ) (out : List ℕ) where
-    pub fault-breaks : keepsRules c run ≡ false → FaultLeaves c run f out (leftAs arm counts 20) states out
+  module _ (k : keepsRules c run ≡ true) where
+    pub fault-cramped : length out < stepRoom → FaultLeaves c run f out (leftAs (run .standing) 21) (run .states) out
     unfolding faultStepOf
-    fault-breaks = breaks out _ _ (fault-unsent (tablesOf c) f out 20 20 refl refl)
+    fault-cramped h = record { step = judged-21 c run (length out) (faultStep (tablesOf c) run f) k h; output = fault-unsent (tablesOf c) f out 21 21 refl refl }
 
-    module _ (k : keepsRules c run ≡ true) where
-      pub fault-cramped : length out < stepRoom → FaultLeaves c run f out (leftAs arm counts 21) states out
-      unfolding faultStepOf
-      fault-cramped = cramped out _ _ (fault-unsent (tablesOf c) f out 21 21 refl refl) k
+    pub fault-leaves : stepRoom ≤ length out → {a : Answer} {after left : List ℕ} → FaultMoves c (run .states) f out a after left
+        → {k : Counts} {next : Standing} → k ≡ faultCounts (a .answer) (run .standing .counts) → next ≡ withCounts k (run .standing)
+        → FaultLeaves c run f out (leftFrom next a) after left
+    unfolding faultStepOf
+    fault-leaves h moves ek en =
+        record { step = fault-moved run moves ek en ∙ judged-on c run (length out) (faultStep (tablesOf c) run f) k h; output = moves .output }
 
-      pub fault-leaves : Sized c → stepRoom ≤ length out → (a : Answer) (after left : List ℕ) (next : Counts) → FaultMoves c states f out a after left → next ≡ faultCounts (a .answer) counts
-          → FaultLeaves c run f out (leftFrom arm next a) after left
-      unfolding faultStepOf
-      fault-leaves z h a after left next moves e =
-          let both = moves .step arm counts (keeps c run k) z in
-          does out _ _ k h _ after left (rw e (both .0)) (both .1)
-
-  pub tick-breaks : keepsRules c run ≡ false → stepLeft (leftAs arm counts 20) states ≡ tickStepOf c run
+module _ (c : Config) (run : Run) where
+  pub tick-breaks : keepsRules c run ≡ false → stepLeft (leftAs (run .standing) 20) (run .states) ≡ tickStepOf c run
   tick-breaks k = tick-20 c run k
 
-  pub tick-leaves : keepsRules c run ≡ true → (t : Ticked) (a : Answer) → t ≡ tickedBy arm → a ≡ bareAnswer (t .answer)
-      → stepLeft (leftFrom (t .arm) counts a) states ≡ tickStepOf c run
-  unfolding tickStep
-  tick-leaves k t a e q = rw (q, e) (tick-on c run k)
+  pub tick-leaves : keepsRules c run ≡ true → {t : Ticked} {a : Answer} {next : Standing} → t ≡ tickedBy (run .standing .arm) → a ≡ bareAnswer (t .answer)
+      → next ≡ withArm (t .arm) (run .standing) → stepLeft (leftFrom next a) (run .states) ≡ tickStepOf c run
+  tick-leaves k e q n = tick-moved run e q n ∙ tick-on c run k

@@ -3,12 +3,14 @@ use mathlib.Core.Bool.{Bool}
 use mathlib.Core.List.{List}
 use Prim.Native.Nat.{ℕ}
 use Rattle.state.specs.declared.types.Arm.{Arm}
-use Rattle.state.specs.declared.types.Counts.{Counts}
+use Rattle.state.specs.declared.types.Standing.{Standing}
 use Rattle.state.specs.declared.types.Run.{Run}
 use Rattle.state.specs.Tables.{runFrom}
 use Rattle.step_rules.specs.declared.types.Answer.{Answer}
 use Rattle.step_rules.specs.declared.types.Stepped.{Stepped}
 use Rattle.step_rules.specs.declared.types.Moved.{Moved}
+use Rattle.step_rules.specs.declared.types.Decision.{Decision}
+use Rattle.step_rules.specs.declared.types.Responding.{Responding}
 use Rattle.step_rules.specs.declared.types.Left.{Left}
 
 -- answer, command id, destination, bytes written
@@ -39,14 +41,22 @@ unchanged run n = stepFrom run (bareAnswer n)
 abbrev pub movedFrom : Arm → Bool → Answer → Moved
 movedFrom arm reset answer = record { arm = arm; reset = reset; answer = answer }
 
--- a step on any state: arm record and counters that it leaves, and the answer
-abbrev pub leftFrom : Arm → Counts → Answer → Left
-leftFrom arm counts answer = record { arm = arm; counts = counts; answer = answer }
+-- a packet before anything is sent on: what the step hands back, and whether its command is to be sent on
+abbrev pub decisionFrom : Moved → Bool → Decision
+decisionFrom moved sends = record { moved = moved; sends = sends }
+
+-- a fault before anything is sent on: the answer, and for 10 the place of the row
+abbrev pub respondingFrom : Answer → ℕ → Responding
+respondingFrom answer row = record { answer = answer; row = row }
+
+-- a step on any state: the standing that it leaves, and the answer
+abbrev pub leftFrom : Standing → Answer → Left
+leftFrom standing answer = record { standing = standing; answer = answer }
 
 -- 20 and 21
-abbrev pub leftAs : Arm → Counts → ℕ → Left
-leftAs arm counts n = leftFrom arm counts (bareAnswer n)
+abbrev pub leftAs : Standing → ℕ → Left
+leftAs standing n = leftFrom standing (bareAnswer n)
 
 -- the step that it was, with the fault states that it left
 abbrev pub stepLeft : Left → List ℕ → Stepped
-stepLeft l states = stepFrom (runFrom (l .arm) (l .counts) states) (l .answer)
+stepLeft l states = stepFrom (runFrom (l .standing) states) (l .answer)

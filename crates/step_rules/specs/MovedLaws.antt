@@ -4,11 +4,11 @@ use mathlib.Core.Bool.{Bool, true, false, cond, not, _&&_, _||_, false≢true}
 use mathlib.Core.Logic.{_⊎_, inl, inr}
 use mathlib.Core.Option.{Option, none, some}
 use mathlib.Core.List.{List, map}
-use Prim.Native.Nat.{ℕ, _-_, _<_, _≤_}
+use Prim.Native.Nat.{ℕ, _+_, _-_, _<_, _≤_}
 use native.Mathlib.Omega.{arith}
 use lib.Dec.{eqb}
 use lib.ListN.{length, getD, set, take}
-use borrow.Author.Tests.{eq-eqb, ne-eqb, leb-true, le-leb, lt-leb}
+use borrow.Author.Tests.{eq-eqb, ne-eqb, eqb-true}
 use Rattle.wire.specs.Check.{check}
 use Rattle.packet_rules.specs.Layout.{commandId}
 use Rattle.packet_rules.specs.Judge.{argumentsOf}
@@ -17,15 +17,17 @@ use Rattle.state.specs.declared.types.Config.{Config}
 use Rattle.state.specs.declared.types.Run.{Run}
 use Rattle.state.specs.declared.types.Arm.{Arm}
 use Rattle.state.specs.declared.types.Counts.{Counts}
-use Rattle.state.specs.Tables.{tablesOf, runFrom}
+use Rattle.state.specs.declared.types.Standing.{Standing}
+use Rattle.state.specs.Tables.{faultId, routed, tablesOf, withArm, runFrom}
 use Rattle.state.specs.Rules.{member}
 use Rattle.state.specs.Lookup.{placeIn}
-use Rattle.state.specs.ArrayLaws.{routed-is, fault-ids-are}
+use Rattle.state.specs.ArrayLaws.{routed-is}
 use Rattle.step_rules.specs.declared.types.Moved.{Moved}
+use Rattle.step_rules.specs.declared.types.Decision.{Decision}
 use Rattle.step_arm.specs.Arming.{armAfter}
 use Rattle.step_effects.specs.Counters.{noCounts, acceptedCounts, packetCounts, rejectedCounts, movedCounts}
-use Rattle.step_effects.specs.Dispatch.{Wrote, destOf, sent}
-use Rattle.step_effects.specs.DispatchLaws.{sent-not, sent-10}
+use Rattle.step_effects.specs.Dispatch.{Wrote, destOf}
+use Rattle.step_effects.specs.DispatchLaws.{sent-10}
 use Rattle.step_effects.specs.FaultStates.{nextState, placeOf, isPlace, commanded}
 use Rattle.step_answers.specs.declared.own.Own.{Own}
 use Rattle.step_answers.specs.Own.{ruleOf, ownCommand, isReset, faultArg}
@@ -34,10 +36,11 @@ use Rattle.step_answers.specs.OwnLaws.{done-is, resets-12, own-31, own-32, own-
 use Rattle.step_answers.specs.AnswerLaws.{answer-30, answer-own, answer-route, Lent, route-none, route-found, route-dest}
 use Rattle.step_rules.specs.Step.{statesAfter, acceptedStep, rejectedStep, packetStep, packetOutput}
 use Rattle.step_rules.specs.StateLaws.{doneOn, states-long, states-same, states-12, states-done}
-use Rattle.step_rules.specs.StepLaws.{accepted-is, packet-rejected, packet-accepted}
+use Rattle.step_rules.specs.StepLaws.{accepted-is, packet-rejected, packet-accepted, packet-unsent}
 use Rattle.step_rules.specs.Packets.{refusalUnder, outcome-under, rejects-under}
-use Rattle.step_rules.specs.Makers.{dispatchedAnswer, movedFrom}
-use Rattle.step_rules.specs.Moved.{movedBy, quietly, rejectedBy, OwnMoves, RowMoves, leftBy, PacketMoves}
+use Rattle.step_rules.specs.Makers.{dispatchedAnswer, movedFrom, decisionFrom}
+use Rattle.step_rules.specs.Found.{ids-are}
+use Rattle.step_rules.specs.Moved.{movedBy, quietly, rejectedBy, OwnMoves, RowMoves, leftBy, PacketDecided, PacketMoves}
 
 -- ---- an answer that sends nothing on
 
@@ -138,7 +141,7 @@ no-rejection routed protected ids armed id (some k) args =
 
 -- ---- a packet, with the columns lent
 
-module _ (c : Config) (l : Lent (c .numbers) (c .routeids) (c .dests) (c .protected) (c .faultids)) (arm : Arm) (before p out : List ℕ) where
+module _ (c : Config) (l : Lent (c .numbers) (c .routeids) (c .dests) (c .protected) (c .faultids)) (arm : Arm) (before p : List ℕ) where
   abbrev routed-ids : List ℕ
   routed-ids = take (c .numbers .nroutes) (c .routeids)
 
@@ -148,68 +151,95 @@ module _ (c : Config) (l : Lent (c .numbers) (c .routeids) (c .dests) (c .protec
   abbrev fault-ids : List ℕ
   fault-ids = take (c .numbers .nrows) (c .faultids)
 
-  abbrev run : Counts → Run
-  run counts = runFrom arm counts before
+  abbrev run : Standing → Run
+  run s = runFrom (withArm arm s) before
 
-  pub moves-rejected : (n : ℕ) → (n ≡ refusalUnder (tablesOf c) p) × (n ≡ 0 → ⊥) → PacketMoves c arm before p out (rejectedBy arm n) before out
-  unfolding rejectedStep packetOutput
-  moves-rejected n (e, h) =
+  routed-are : routed (tablesOf c) ≡ routed-ids
+  routed-are = let t = l .route-ids .slots in routed-is c (omega (arith, t .long, t .within))
+
+  fault-ids-are : map faultId (tablesOf c .rows) ≡ fault-ids
+  fault-ids-are = ids-are c (l .fault-ids .slots)
+
+  pub decided-rejected : (n : ℕ) → (n ≡ refusalUnder (tablesOf c) p) × (n ≡ 0 → ⊥) → PacketDecided c arm before p (decisionFrom (rejectedBy arm n) false) before
+  unfolding rejectedStep
+  decided-rejected n (e, h) =
       let y : isRejection n ≡ true = rejects-under (tablesOf c) p (rw (← e) at (outcome-under (tablesOf c) p)) h in
       record {
-        step = λ counts. rw (counts-rejected n counts y) (packet-rejected (tablesOf c) (run counts) p n (e, h));
-        output = sent-not n (c .numbers .ground) (commandId p) (argumentsOf p) out (rejection-not y 10 refl);
+        step = λ s. rw (counts-rejected n (s .counts) y) (packet-rejected (tablesOf c) (run s) p n (e, h));
+        for-10 = sym (ne-eqb n 10 (rejection-not y 10 refl));
+        sends = λ s. absurd (false≢true s);
         long = refl;
       }
 
-  module _ {id : ℕ} {k : Option Own} {args : List ℕ} (z : refusalUnder (tablesOf c) p ≡ 0) (ei : id ≡ commandId p) (ea : args ≡ argumentsOf p) (ek : k ≡ ownCommand (c .numbers .base) id) where
-    moves-accepted : {n : ℕ} {r : Moved} {after left : List ℕ}
+  module _ {id : ℕ} {k : Option Own} {args : List ℕ} (z : refusalUnder (tablesOf c) p ≡ 0) (ei : id ≡ commandId p) (ea : args ≡ argumentsOf p) (ek : k ≡ ownCommand (c .numbers .settings .base) id) where
+    decided-accepted : {n : ℕ} {r : Moved} {after : List ℕ}
         → n ≡ answerFor routed-ids protected-ids fault-ids (arm .armed) id k args
         → r ≡ movedBy n k id args (destOf id (tablesOf c .routes))
         → after ≡ statesAfter fault-ids n k args before
-        → left ≡ sent n (c .numbers .ground) id args out
-        → PacketMoves c arm before p out r after left
-    unfolding packetOutput
-    moves-accepted {n} {r} {after} {left} en er es eo =
+        → (sends : Bool) → sends ≡ eqb n 10
+        → PacketDecided c arm before p (decisionFrom r sends) after
+    decided-accepted {n} {r} {after} en er es sends on =
         let y : isRejection n ≡ false = rw en (no-rejection routed-ids protected-ids fault-ids (arm .armed) id k args) in
-        let t = l .route-ids .slots in
-        let f = l .fault-ids .slots in
         record {
-          step = λ counts.
+          step = λ s.
               rw er
-              (accepted-is (tablesOf c) (run counts) id args (routed-is c (omega (arith, t .long, t .within))) (fault-ids-are c (omega (arith, f .long, f .within))) ek en refl (counts-accepted n k counts y) es refl refl
-              ∙ packet-accepted (tablesOf c) (run counts) p id args z ei ea);
-          output = eo ∙ rw (er, ei, ea);
+              (accepted-is (tablesOf c) (run s) id args routed-are fault-ids-are ek en refl (counts-accepted n k (s .counts) y) es refl refl
+              ∙ packet-accepted (tablesOf c) (run s) p id args z ei ea);
+          for-10 = on ∙ rw er;
+          sends = λ s.
+              let m : n ≡ 10 = eqb-true n 10 (sym on ∙ s) in
+              record {
+                accepted = z;
+                answered = rw (← ei, ← ea, routed-are, fault-ids-are, ← ek) (sym m ∙ en);
+                moved = er ∙ rw (m, ei, ea);
+                states = es ∙ sym (states-same fault-ids args before n k (λ d. omega (arith, m, d)));
+              };
           long = rw es (states-long fault-ids n k args before);
         }
 
     -- an answer that sends nothing on, and changes no state
-    moves-quiet : (n : ℕ) → (n ≡ 10 → ⊥) × (n ≡ 12 → ⊥)
+    decided-quiet : (n : ℕ) → (n ≡ 10 → ⊥) × (n ≡ 12 → ⊥)
         → n ≡ answerFor routed-ids protected-ids fault-ids (arm .armed) id k args
-        → PacketMoves c arm before p out (quietly n id args false) before out
-    moves-quiet n (a, b) en =
-        moves-accepted en
-        (quiet-is n k id args (destOf id (tablesOf c .routes)) false a (rw (ne-eqb n 12 b)))
-        (states-same fault-ids args before n k b)
-        (sent-not n (c .numbers .ground) id args out a)
+        → PacketDecided c arm before p (decisionFrom (quietly n id args false) false) before
+    decided-quiet n (a, b) en =
+        decided-accepted en (quiet-is n k id args (destOf id (tablesOf c .routes)) false a (rw (ne-eqb n 12 b))) (states-same fault-ids args before n k b)
+        false (sym (ne-eqb n 10 a))
 
-    pub moves-30 : blocked protected-ids (arm .armed) id ≡ true → PacketMoves c arm before p out (quietly 30 id args false) before out
-    moves-30 b = moves-quiet 30 (λ e. omega arith, λ e. omega arith) (answer-30 _ _ _ _ _ _ _ b)
+    pub decided-30 : blocked protected-ids (arm .armed) id ≡ true → PacketDecided c arm before p (decisionFrom (quietly 30 id args false) false) before
+    decided-30 b = decided-quiet 30 (λ e. omega arith, λ e. omega arith) (answer-30 _ _ _ _ _ _ _ b)
 
     module _ (b : blocked protected-ids (arm .armed) id ≡ false) where
-      pub moves-own : {r : Moved} {after : List ℕ} (o : Own) → k ≡ some o → OwnMoves fault-ids o id args before r after → PacketMoves c arm before p out r after out
-      moves-own o q m =
+      pub decided-own : {r : Moved} {after : List ℕ} (o : Own) → k ≡ some o → OwnMoves fault-ids o id args before r after → PacketDecided c arm before p (decisionFrom r false) after
+      decided-own o q m =
           let t : eqb (ownAnswer fault-ids o args) 10 ≡ false = own-not-10 fault-ids o args in
-          moves-accepted (answer-own _ _ _ _ _ _ o q b) (m .moved ∙ rw (t, q)) (m .states ∙ rw (← q)) (sent-not _ (c .numbers .ground) id args out (λ e. false≢true (sym t ∙ eq-eqb _ 10 e)))
+          decided-accepted (answer-own _ _ _ _ _ _ o q b) (m .moved ∙ rw (t, q)) (m .states ∙ rw (← q)) false (sym t)
 
       module _ (h : k ≡ none) {at : ℕ} (f : at ≡ placeIn id routed-ids) where
-        pub moves-33 : c .numbers .nroutes ≤ at → PacketMoves c arm before p out (quietly 33 id args false) before out
-        moves-33 g =
-            moves-quiet 33 (λ e. omega arith, λ e. omega arith) (route-none (l .route-ids) id at f g ∙ answer-route _ _ _ _ _ _ h b)
+        pub decided-33 : c .numbers .nroutes ≤ at → PacketDecided c arm before p (decisionFrom (quietly 33 id args false) false) before
+        decided-33 g =
+            decided-quiet 33 (λ e. omega arith, λ e. omega arith) (route-none (l .route-ids) id at f g ∙ answer-route _ _ _ _ _ _ h b)
 
-        pub moves-10 : (written : ℕ) (left : List ℕ) → at < c .numbers .nroutes → Wrote (c .numbers .ground) id args out written left
-            → PacketMoves c arm before p out (movedFrom (armAfter 10 args) false (dispatchedAnswer id (getD (c .dests) at 0) written)) before left
-        moves-10 written left g (w, o) =
-            moves-accepted {n = 10} (route-found (l .route-ids) id at f g ∙ answer-route _ _ _ _ _ _ h b)
-            (rw (w, route-dest (l .route-ids) id at f (c .dests) g))
+        pub decided-10 : at < c .numbers .nroutes
+            → PacketDecided c arm before p (decisionFrom (movedFrom (armAfter 10 args) false (dispatchedAnswer id (getD (c .dests) at 0) (5 + length args))) true) before
+        decided-10 g =
+            decided-accepted {n = 10} (route-found (l .route-ids) id at f g ∙ answer-route _ _ _ _ _ _ h b)
+            (rw (route-dest (l .route-ids) id at f (c .dests) g))
             (states-same fault-ids args before 10 k (λ e. omega arith))
-            (o ∙ sent-10 10 (c .numbers .ground) id args out refl)
+            true refl
+
+-- ---- the output: what was decided is the step, and a command that is sent on is written
+
+module _ {c : Config} {arm : Arm} {before p : List ℕ} {r : Decision} {after : List ℕ} (d : PacketDecided c arm before p r after) (out : List ℕ) where
+  pub moves-unsent : r .sends ≡ false → PacketMoves c arm before p out (r .moved) after out
+  moves-unsent h =
+      record { step = d .step; output = packet-unsent (tablesOf c) p out (r .moved .answer .answer) _ refl (sym (d .for-10) ∙ h); long = d .long }
+
+  pub moves-sent : r .sends ≡ true → {id : ℕ} {args : List ℕ} → id ≡ commandId p → args ≡ argumentsOf p → (written : ℕ) (left : List ℕ)
+      → Wrote (c .numbers .settings .ground) id args out written left → PacketMoves c arm before p out (r .moved) after left
+  unfolding packetOutput
+  moves-sent h {id} {args} ei ea written left (w, o) =
+      record {
+        step = d .step;
+        output = o ∙ sent-10 (r .moved .answer .answer) (c .numbers .settings .ground) id args out (ap (λ (x : Moved). x .answer .answer) (d .sends h .moved)) ∙ rw (ei, ea);
+        long = d .long;
+      }

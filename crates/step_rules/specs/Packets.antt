@@ -6,7 +6,7 @@ use Prim.Native.Nat.{ℕ}
 use lib.Dec.{eqb}
 use Rattle.packet_rules.specs.Judge.{refusalOf}
 use Rattle.packet_rules.specs.JudgeOutcome.{Outcome, Accepts}
-use Rattle.packet_rules.specs.JudgeLaws.{outcome, only, accepts, accepted}
+use Rattle.packet_rules.specs.JudgeLaws.{outcome, only, accepts, none-refuses}
 use Rattle.packet_rules.specs.Rejection.{isRejection, rejects, rejection-not, refusal-not}
 use Rattle.state.specs.Tables.{Tables}
 
@@ -35,7 +35,7 @@ module _ (t : Tables) (p : List ℕ) where
   accepts-under z = accepts p z
 
   pub accepted-under : AcceptsUnder t p → refusalUnder t p ≡ 0
-  accepted-under a = accepted a
+  accepted-under a = none-refuses a
 
   module _ {n : ℕ} (o : OutcomeUnder t p n) where
     pub only-under : n ≡ refusalUnder t p

@@ -43,7 +43,7 @@ abbrev asksRow : Option Own → Bool
 asksRow none = false
 asksRow (some k) = ruleOf k .onRow
 
-module _ (c : Config) (run : Run) (p : List ℕ) (room : ℕ) {k : Own} {e : ℕ} (w : RowCommand k e) (own : ownCommand (tablesOf c .base) (commandId p) ≡ some k) where
+module _ (c : Config) (run : Run) (p : List ℕ) (room : ℕ) {k : Own} {e : ℕ} (w : RowCommand k e) (own : ownCommand (tablesOf c .settings .base) (commandId p) ≡ some k) where
   abbrev rows : List FaultRow
   rows = tablesOf c .rows
 

@@ -16,7 +16,7 @@ use Rattle.state.specs.declared.types.Config.{Config}
 use Rattle.state.specs.declared.types.Run.{Run}
 use Rattle.state.specs.declared.types.Arm.{Arm}
 use Rattle.state.specs.Tables.{FaultRow, Tables, faultId, tablesOf}
-use Rattle.state.specs.Keeps.{Clear, StateOk, StatesOk, ArmOk, RunOk, Keeps}
+use Rattle.state.specs.Keeps.{AllZero, StateOk, StatesOk, ArmOk, RunOk, Keeps}
 use Rattle.step_rules.specs.Packets.{refusalUnder, acceptedUnder, AcceptsUnder, accepts-under}
 use Rattle.step_effects.specs.FaultStates.{disabled, enabled, latched, enable, disable, clear, fault, nextState, rowAfter, placeOf, meant, noRow, rowFor, onward, clearAll}
 use Rattle.step_effects.specs.ActLaws.{place-row}
@@ -79,12 +79,12 @@ onward-ok rows f next ss ok h = go (placeOf f (map faultId rows)) refl
 clear-zero : (s : ℕ) → s ≡ 0 → nextState s clear ≡ 0
 clear-zero s e = rw e
 
-clear-clear : (ss : List ℕ) → Clear ss → Clear (clearAll ss)
-clear-clear [] h = tt
-clear-clear (s ∷ ss) h = (clear-zero s (h .0), clear-clear ss (h .1))
+clear-zeros : (ss : List ℕ) → AllZero ss → AllZero (clearAll ss)
+clear-zeros [] h = tt
+clear-zeros (s ∷ ss) h = (clear-zero s (h .0), clear-zeros ss (h .1))
 
 all-ok : (rows : List FaultRow) (ss : List ℕ) → StatesOk rows ss → StatesOk rows (clearAll ss)
-all-ok [] ss h = clear-clear ss h
+all-ok [] ss h = clear-zeros ss h
 all-ok (r ∷ rows) [] h = tt
 all-ok (r ∷ rows) (s ∷ ss) h = (clear-ok (r .latching) s (h .0), all-ok rows ss (h .1))
 
@@ -149,13 +149,13 @@ module _ (t : Tables) (run : Run) (h : RunOk t run) where
       go true e =
           rw (← packet-accepted t run p (commandId p) (argumentsOf p) (eqb-true _ _ e) refl refl)
           (record {
-            arm-ok = arm-after-ok (answerTo t (run .arm .armed) (commandId p) (argumentsOf p)) (argumentsOf p) (argument-byte t p (accepts-under t p (eqb-true _ _ e)) b);
+            arm-ok = arm-after-ok (answerTo t (run .standing .arm .armed) (commandId p) (argumentsOf p)) (argumentsOf p) (argument-byte t p (accepts-under t p (eqb-true _ _ e)) b);
             states-ok = states-ok (t .rows) _ _ (argumentsOf p) (run .states) (h .states-ok);
           })
 
   pub tick-run-ok : RunOk t (tickStep run .run)
   unfolding tickStep
-  tick-run-ok = record { arm-ok = ticked-ok (run .arm .armed) (run .arm .ticks) (h .arm-ok); states-ok = h .states-ok }
+  tick-run-ok = record { arm-ok = ticked-ok (run .standing .arm .armed) (run .standing .arm .ticks) (h .arm-ok); states-ok = h .states-ok }
 
   pub fault-run-ok : (f : ℕ) → RunOk t (faultStep t run f .run)
   unfolding faultStep

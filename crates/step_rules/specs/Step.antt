@@ -9,7 +9,7 @@ use Rattle.packet_rules.specs.Layout.{commandId}
 use Rattle.packet_rules.specs.Judge.{argumentsOf}
 use Rattle.state.specs.declared.types.Config.{Config}
 use Rattle.state.specs.declared.types.Run.{Run}
-use Rattle.state.specs.Tables.{Tables, faultId, tablesOf, runFrom, withArm, withCounts}
+use Rattle.state.specs.Tables.{Tables, faultId, tablesOf, withArm, withCounts, runFrom, runCounted}
 use Rattle.state.specs.Test.{keepsRules}
 use Rattle.step_rules.specs.declared.types.Answer.{Answer}
 use Rattle.step_rules.specs.declared.types.Stepped.{Stepped}
@@ -33,11 +33,11 @@ sentAnswer t n shown id args = answerFrom n shown (for10 n (destOf id (t .routes
 
 -- a packet's command carries its own id and arguments, from the ground
 unfoldable pub packetOutput : Tables → ℕ → List ℕ → List ℕ → List ℕ
-packetOutput t n p out = sent n (t .ground) (commandId p) (argumentsOf p) out
+packetOutput t n p out = sent n (t .settings .ground) (commandId p) (argumentsOf p) out
 
 -- a response carries the row's own command id and arguments, from the fault source
 unfoldable pub faultOutput : Tables → ℕ → ℕ → List ℕ → List ℕ
-faultOutput t n f out = sent n (t .fault) (rowFor (meant t f) (t .rows) .response) (rowFor (meant t f) (t .rows) .args) out
+faultOutput t n f out = sent n (t .settings .fault) (rowFor (meant t f) (t .rows) .response) (rowFor (meant t f) (t .rows) .args) out
 
 -- ---- a packet
 
@@ -60,19 +60,19 @@ statesAfter ids n (some k) args ss = cond (eqb n 12) (statesBy (λ e. commanded 
 -- the run after an accepted packet that gets the answer n
 abbrev pub actedRun : Tables → Run → ℕ → List ℕ → ℕ → Run
 actedRun t run id args n =
-    runFrom (armAfter n args)
-    (packetCounts n (isReset (ownCommand (t .base) id)) (run .counts))
-    (statesAfter (map faultId (t .rows)) n (ownCommand (t .base) id) args (run .states))
+    runFrom
+    (withArm (armAfter n args) (withCounts (packetCounts n (isReset (ownCommand (t .settings .base) id)) (run .standing .counts)) (run .standing)))
+    (statesAfter (map faultId (t .rows)) n (ownCommand (t .settings .base) id) args (run .states))
 
 abbrev pub acted : Tables → Run → ℕ → List ℕ → ℕ → Stepped
 acted t run id args n = stepFrom (actedRun t run id args n) (sentAnswer t n id id args)
 
 unfoldable pub acceptedStep : Tables → Run → ℕ → List ℕ → Stepped
-acceptedStep t run id args = acted t run id args (answerTo t (run .arm .armed) id args)
+acceptedStep t run id args = acted t run id args (answerTo t (run .standing .arm .armed) id args)
 
 -- a rejected packet moves R alone
 unfoldable pub rejectedStep : Run → ℕ → Stepped
-rejectedStep run n = stepFrom (withCounts (rejectedCounts (run .counts)) run) (bareAnswer n)
+rejectedStep run n = stepFrom (runCounted (rejectedCounts (run .standing .counts)) run) (bareAnswer n)
 
 -- the judge's refusal, else what its id and arguments ask
 unfoldable pub packetStep : Tables → Run → List ℕ → Stepped
@@ -83,7 +83,8 @@ packetStep t run p =
 
 unfoldable pub tickStep : Run → Stepped
 tickStep run =
-    stepFrom (withArm (ticked (run .arm .armed) (run .arm .ticks)) run) (bareAnswer (tickAnswer (run .arm .armed) (run .arm .ticks)))
+    let arm = run .standing .arm in
+    stepFrom (runFrom (withArm (ticked (arm .armed) (arm .ticks)) (run .standing)) (run .states)) (bareAnswer (tickAnswer (arm .armed) (arm .ticks)))
 
 -- ---- a fault
 
@@ -91,13 +92,15 @@ tickStep run =
 -- stays
 abbrev pub faultedRun : Tables → Run → Option ℕ → ℕ → Run
 faultedRun t run place n =
-    runFrom (run .arm) (faultCounts n (run .counts)) (cond (eqb n 10) (latchedBy (t .rows) place (run .states)) (run .states))
+    runFrom (withCounts (faultCounts n (run .standing .counts)) (run .standing))
+    (cond (eqb n 10) (latchedBy (t .rows) place (run .states)) (run .states))
 
 -- the id is set for 10 only too
+abbrev pub faultedAnswer : Tables → Option ℕ → ℕ → Answer
+faultedAnswer t place n = let row = rowFor place (t .rows) in sentAnswer t n (for10 n (row .response)) (row .response) (row .args)
+
 abbrev pub faulted : Tables → Run → Option ℕ → ℕ → Stepped
-faulted t run place n =
-    let row = rowFor place (t .rows) in
-    stepFrom (faultedRun t run place n) (sentAnswer t n (for10 n (row .response)) (row .response) (row .args))
+faulted t run place n = stepFrom (faultedRun t run place n) (faultedAnswer t place n)
 
 unfoldable pub faultStep : Tables → Run → ℕ → Stepped
 faultStep t run f = faulted t run (meant t f) (faultAnswer (run .states) (meant t f))

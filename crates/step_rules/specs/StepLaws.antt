@@ -13,7 +13,7 @@ use Rattle.state.specs.declared.types.Config.{Config}
 use Rattle.state.specs.declared.types.Run.{Run}
 use Rattle.state.specs.declared.types.Arm.{Arm}
 use Rattle.state.specs.declared.types.Counts.{Counts}
-use Rattle.state.specs.Tables.{Tables, faultId, routed, tablesOf, runFrom}
+use Rattle.state.specs.Tables.{Tables, faultId, routed, tablesOf, withArm, withCounts, runFrom}
 use Rattle.state.specs.Test.{keepsRules}
 use Rattle.step_rules.specs.declared.types.Stepped.{Stepped}
 use Rattle.step_rules.specs.Packets.{refusalUnder}
@@ -30,14 +30,14 @@ use Rattle.step_rules.specs.Step.{statesAfter, acted, acceptedStep, reje
 pub accepted-is : (t : Tables) (run : Run) (id : ℕ) (args : List ℕ) {routedIds faultIds : List ℕ} {k : Option Own} {n dest written : ℕ} {arm : Arm} {counts : Counts} {states : List ℕ}
     → routed t ≡ routedIds
     → map faultId (t .rows) ≡ faultIds
-    → k ≡ ownCommand (t .base) id
-    → n ≡ answerFor routedIds (t .protected) faultIds (run .arm .armed) id k args
+    → k ≡ ownCommand (t .settings .base) id
+    → n ≡ answerFor routedIds (t .protected) faultIds (run .standing .arm .armed) id k args
     → arm ≡ armAfter n args
-    → counts ≡ packetCounts n (isReset k) (run .counts)
+    → counts ≡ packetCounts n (isReset k) (run .standing .counts)
     → states ≡ statesAfter faultIds n k args (run .states)
     → dest ≡ for10 n (destOf id (t .routes))
     → written ≡ for10 n (5 + length args)
-    → stepFrom (runFrom arm counts states) (answerFrom n id dest written) ≡ acceptedStep t run id args
+    → stepFrom (runFrom (withArm arm (withCounts counts (run .standing))) states) (answerFrom n id dest written) ≡ acceptedStep t run id args
 unfolding acceptedStep
 accepted-is t run id args {n = n} er ef ek en ea ec es ed ew =
     rw (ea, ec, es, ed, ew, ek, ← ef) (ap (acted t run id args) (rw (← er, ← ef, ek) at en))

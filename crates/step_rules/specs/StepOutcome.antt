@@ -35,19 +35,19 @@ pub data Answered (t : Tables) (armed : Bool) (id : ℕ) (args : List ℕ) : ℕ
   -- protected and unarmed
   stopped : blocked (t .protected) armed id ≡ true → Answered t armed id args 30
   -- own command, wrong argument count
-  miscounted : blocked (t .protected) armed id ≡ false → (k : Own) → ownCommand (t .base) id ≡ some k → (length args ≡ ruleOf k .wanted → ⊥) → Answered t armed id args 31
+  miscounted : blocked (t .protected) armed id ≡ false → (k : Own) → ownCommand (t .settings .base) id ≡ some k → (length args ≡ ruleOf k .wanted → ⊥) → Answered t armed id args 31
   -- own command, fault id not in the table
-  no-row : blocked (t .protected) armed id ≡ false → (k : Own) → ownCommand (t .base) id ≡ some k → length args ≡ ruleOf k .wanted → ruleOf k .onRow ≡ true → meant t (faultArg args) ≡ none → Answered t armed id args 32
+  no-row : blocked (t .protected) armed id ≡ false → (k : Own) → ownCommand (t .settings .base) id ≡ some k → length args ≡ ruleOf k .wanted → ruleOf k .onRow ≡ true → meant t (faultArg args) ≡ none → Answered t armed id args 32
   -- own command done on a row
-  row-done : blocked (t .protected) armed id ≡ false → (k : Own) → ownCommand (t .base) id ≡ some k → length args ≡ ruleOf k .wanted → ruleOf k .onRow ≡ true → (place : ℕ) → meant t (faultArg args) ≡ some place → Answered t armed id args 12
+  row-done : blocked (t .protected) armed id ≡ false → (k : Own) → ownCommand (t .settings .base) id ≡ some k → length args ≡ ruleOf k .wanted → ruleOf k .onRow ≡ true → (place : ℕ) → meant t (faultArg args) ≡ some place → Answered t armed id args 12
   -- arm taken
-  arm-taken : blocked (t .protected) armed id ≡ false → ownCommand (t .base) id ≡ some Arm → length args ≡ 1 → Answered t armed id args 11
+  arm-taken : blocked (t .protected) armed id ≡ false → ownCommand (t .settings .base) id ≡ some Arm → length args ≡ 1 → Answered t armed id args 11
   -- another own command done
-  own-done : blocked (t .protected) armed id ≡ false → (k : Own) → ownCommand (t .base) id ≡ some k → length args ≡ ruleOf k .wanted → ruleOf k .onRow ≡ false → ruleOf k .done ≡ 12 → Answered t armed id args 12
+  own-done : blocked (t .protected) armed id ≡ false → (k : Own) → ownCommand (t .settings .base) id ≡ some k → length args ≡ ruleOf k .wanted → ruleOf k .onRow ≡ false → ruleOf k .done ≡ 12 → Answered t armed id args 12
   -- neither own nor routed
-  no-route : blocked (t .protected) armed id ≡ false → ownCommand (t .base) id ≡ none → member id (routed t) ≡ false → Answered t armed id args 33
+  no-route : blocked (t .protected) armed id ≡ false → ownCommand (t .settings .base) id ≡ none → member id (routed t) ≡ false → Answered t armed id args 33
   -- command dispatched
-  goes : blocked (t .protected) armed id ≡ false → ownCommand (t .base) id ≡ none → member id (routed t) ≡ true → Answered t armed id args 10
+  goes : blocked (t .protected) armed id ≡ false → ownCommand (t .settings .base) id ≡ none → member id (routed t) ≡ true → Answered t armed id args 10
 
 module _ {t : Tables} {armed : Bool} {id : ℕ} {args : List ℕ} where
   -- no other answer fits
@@ -64,12 +64,12 @@ module _ {t : Tables} {armed : Bool} {id : ℕ} {args : List ℕ} where
 
 -- some answer's conditions hold
 pub answered : (t : Tables) (armed : Bool) (id : ℕ) (args : List ℕ) → Answered t armed id args (answerTo t armed id args)
-answered t armed id args = go (blocked (t .protected) armed id) refl (ownCommand (t .base) id) refl
+answered t armed id args = go (blocked (t .protected) armed id) refl (ownCommand (t .settings .base) id) refl
   where
     as-is : {n : ℕ} → Answered t armed id args n → Answered t armed id args (answerTo t armed id args)
     as-is a = rw (← only a) a
 
-    own : blocked (t .protected) armed id ≡ false → (k : Own) → ownCommand (t .base) id ≡ some k
+    own : blocked (t .protected) armed id ≡ false → (k : Own) → ownCommand (t .settings .base) id ≡ some k
         → (b : Bool) → eqb (length args) (ruleOf k .wanted) ≡ b
         → (r : Bool) → ruleOf k .onRow ≡ r
         → (i : Option ℕ) → meant t (faultArg args) ≡ i
@@ -83,11 +83,11 @@ answered t armed id args = go (blocked (t .protected) armed id) refl (ownCommand
         as-is (arm-taken u (o ∙ ap some z) (eqb-true _ _ e ∙ ap (λ (a : Own). ruleOf a .wanted) z))
     own u k o true e false er i ei (inr d) = as-is (own-done u k o (eqb-true _ _ e) er d)
 
-    other : blocked (t .protected) armed id ≡ false → ownCommand (t .base) id ≡ none → (i : Bool) → member id (routed t) ≡ i → Answered t armed id args (answerTo t armed id args)
+    other : blocked (t .protected) armed id ≡ false → ownCommand (t .settings .base) id ≡ none → (i : Bool) → member id (routed t) ≡ i → Answered t armed id args (answerTo t armed id args)
     other u o true e = as-is (goes u o e)
     other u o false e = as-is (no-route u o e)
 
-    go : (b : Bool) → blocked (t .protected) armed id ≡ b → (o : Option Own) → ownCommand (t .base) id ≡ o → Answered t armed id args (answerTo t armed id args)
+    go : (b : Bool) → blocked (t .protected) armed id ≡ b → (o : Option Own) → ownCommand (t .settings .base) id ≡ o → Answered t armed id args (answerTo t armed id args)
     go true e o eo = as-is (stopped e)
     go false e (some k) eo = own e k eo (eqb (length args) (ruleOf k .wanted)) refl (ruleOf k .onRow) refl (meant t (faultArg args)) refl (done-is k)
     go false e none eo = other e eo (member id (routed t)) refl
@@ -124,7 +124,7 @@ pub data PacketSteps (c : Config) (run : Run) (p : List ℕ) (room : ℕ) : Step
   breaks : keepsRules c run ≡ false → PacketSteps c run p room (unchanged run 20)
   cramped : keepsRules c run ≡ true → room < stepRoom → PacketSteps c run p room (unchanged run 21)
   rejects : keepsRules c run ≡ true → stepRoom ≤ room → (n : ℕ) → OutcomeUnder (tablesOf c) p n → (n ≡ 0 → ⊥) → PacketSteps c run p room (rejectedStep run n)
-  does : keepsRules c run ≡ true → stepRoom ≤ room → AcceptsUnder (tablesOf c) p → (n : ℕ) → Answered (tablesOf c) (run .arm .armed) (commandId p) (argumentsOf p) n → PacketSteps c run p room (acted (tablesOf c) run (commandId p) (argumentsOf p) n)
+  does : keepsRules c run ≡ true → stepRoom ≤ room → AcceptsUnder (tablesOf c) p → (n : ℕ) → Answered (tablesOf c) (run .standing .arm .armed) (commandId p) (argumentsOf p) n → PacketSteps c run p room (acted (tablesOf c) run (commandId p) (argumentsOf p) n)
 
 pub packet-steps : (c : Config) (run : Run) (p : List ℕ) (room : ℕ) → PacketSteps c run p room (packetStepOf c run p room)
 unfolding packetStepOf acceptedStep
@@ -140,7 +140,7 @@ packet-steps c run p room = go (keepsRules c run) refl (leb stepRoom room) refl 
         rw (e, el, ← packet-rejected t run p (refusalUnder t p) (refl, eqb-false _ _ ez)) (rejects e (leb-true _ _ el) (refusalUnder t p) (outcome-under t p) (eqb-false _ _ ez))
     go true e true el true ez =
         rw (e, el, ← packet-accepted t run p (commandId p) (argumentsOf p) (eqb-true _ _ ez) refl refl)
-        (does e (leb-true _ _ el) (accepts-under t p (eqb-true _ _ ez)) (answerTo t (run .arm .armed) (commandId p) (argumentsOf p)) (answered t (run .arm .armed) (commandId p) (argumentsOf p)))
+        (does e (leb-true _ _ el) (accepts-under t p (eqb-true _ _ ez)) (answerTo t (run .standing .arm .armed) (commandId p) (argumentsOf p)) (answered t (run .standing .arm .armed) (commandId p) (argumentsOf p)))
 
 pub data FaultSteps (c : Config) (run : Run) (f room : ℕ) : Stepped → Type 0 where
   breaks : keepsRules c run ≡ false → FaultSteps c run f room (unchanged run 20)

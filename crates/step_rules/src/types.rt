@@ -1,10 +1,10 @@
 // What a step hands back, and the makers of it: nobody else writes such a struct out.
 use state::types::Arm;
-use state::types::Counts;
 use state::types::Run;
+use state::types::Standing;
 use state::types::run_of;
 ghost use mathlib.Core.Path.{_≡_};
-ghost use Rattle.step_rules.specs.Makers.{bareAnswer, namedAnswer, dispatchedAnswer, movedFrom, leftFrom, leftAs, stepLeft};
+ghost use Rattle.step_rules.specs.Makers.{bareAnswer, namedAnswer, dispatchedAnswer, movedFrom, decisionFrom, respondingFrom, leftFrom, leftAs, stepLeft};
 
 // The four numbers of an answer: the answer, the command id, the destination and the bytes written.
 #[repr(C)]
@@ -30,10 +30,21 @@ pub struct Moved {
     pub answer: Answer,
 }
 
+// What a packet comes to before anything is sent on: what the step hands back, and whether its command is to be sent on.
+pub struct Decision {
+    pub moved: Moved,
+    pub sends: bool,
+}
+
+// What a fault comes to before anything is sent on: the answer, and for 10 the place of the row whose response is to be sent.
+pub struct Responding {
+    pub answer: Answer,
+    pub row: usize,
+}
+
 // What a step on any state leaves, where the fault states are lent and left where they stand.
 pub struct Left {
-    pub arm: Arm,
-    pub counts: Counts,
+    pub standing: Standing,
     pub answer: Answer,
 }
 
@@ -75,33 +86,41 @@ pub fn moved_of(arm: Arm, reset: bool, answer: Answer) -> Moved
     Moved { arm, reset, answer }
 }
 
-// What a step leaves.
-pub fn left_of(arm: Arm, counts: Counts, answer: Answer) -> Left
-    ensures { λ r. ⌜ r ≡ leftFrom arm counts answer ⌝ }
+// What a packet comes to before anything is sent on.
+pub fn decision_of(moved: Moved, sends: bool) -> Decision
+    ensures { λ r. ⌜ r ≡ decisionFrom moved sends ⌝ }
 {
-    Left {
-        arm,
-        counts,
-        answer,
-    }
+    Decision { moved, sends }
+}
+
+// What a fault comes to before anything is sent on.
+pub fn responding_of(answer: Answer, row: usize) -> Responding
+    ensures { λ r. ⌜ r ≡ respondingFrom answer row ⌝ }
+{
+    Responding { answer, row }
+}
+
+// What a step leaves.
+pub fn left_of(standing: Standing, answer: Answer) -> Left
+    ensures { λ r. ⌜ r ≡ leftFrom standing answer ⌝ }
+{
+    Left { standing, answer }
 }
 
 // That step, with the fault states that it left.
 pub fn stepped_of(l: Left, states: [u8; 32]) -> Stepped
     ensures { λ r. ⌜ r ≡ stepLeft l states ⌝ }
 {
-    let arm = l.arm;
-    let counts = l.counts;
     let answer = l.answer;
     Stepped {
-        run: run_of(arm, counts, states),
+        run: run_of(l.standing, states),
         answer,
     }
 }
 
 // An answer that changes nothing; the fault states, which are lent, are left where they stand.
-pub fn kept(arm: Arm, counts: Counts, n: u8) -> Left
-    ensures { λ r. ⌜ r ≡ leftAs arm counts n ⌝ }
+pub fn kept(standing: Standing, n: u8) -> Left
+    ensures { λ r. ⌜ r ≡ leftAs standing n ⌝ }
 {
-    left_of(arm, counts, bare(n))
+    left_of(standing, bare(n))
 }

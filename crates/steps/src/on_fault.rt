@@ -1,9 +1,9 @@
 // The fault step on any state. `inner_fault` is the step of a state that keeps its rules.
-use state::types::Arm;
 use state::types::Config;
-use state::types::Counts;
 use state::types::Numbers;
 use state::types::Run;
+use state::types::Standing;
+use state::types::with_counts;
 use step_effects::counts;
 use step_effects::dispatch;
 pub use step_fault::inner_fault;
@@ -28,8 +28,7 @@ pub fn lent_fault<'a>(
     latching: &'a [u8; 32],
     argcounts: &'a [u8; 32],
     args: &'a [u8; 512],
-    arm: Arm,
-    counts: Counts,
+    standing: Standing,
     states: &mut [u8; 32],
     fault: u16,
     out: &mut [u8],
@@ -37,7 +36,7 @@ pub fn lent_fault<'a>(
     ensures { λ r. ⌜ FaultLeaves
         (configFrom numbers (now (routeids .entry)) (now (dests .entry)) (now (protected .entry)) (now (faultids .entry))
         (now (responses .entry)) (now (latching .entry)) (now (argcounts .entry)) (now (args .entry)))
-        (runFrom arm counts (now (states .entry))) fault (now (out .entry)) r (now (states .exit)) (now (out .exit)) ⌝ }
+        (runFrom standing (now (states .entry))) fault (now (out .entry)) r (now (states .exit)) (now (out .exit)) ⌝ }
 {
     if !state_check::lent_keeps(
         numbers,
@@ -49,13 +48,13 @@ pub fn lent_fault<'a>(
         latching,
         argcounts,
         args,
-        arm,
+        standing,
         states,
     ) {
-        return types::kept(arm, counts, 20);
+        return types::kept(standing, 20);
     }
     if out.len() < dispatch::STEP_ROOM {
-        return types::kept(arm, counts, 21);
+        return types::kept(standing, 21);
     }
     let answer = inner_fault(
         numbers,
@@ -70,8 +69,8 @@ pub fn lent_fault<'a>(
         fault,
         out,
     );
-    let counted = counts::after_fault(counts, answer.answer);
-    types::left_of(arm, counted, answer)
+    let counted = counts::after_fault(standing.counts, answer.answer);
+    types::left_of(with_counts(standing, counted), answer)
 }
 
 // The same of a configuration and a run by value.
@@ -79,8 +78,6 @@ pub fn step_fault(config: Config, run: Run, fault: u16, out: &mut [u8]) -> Stepp
     ensures step { λ r. ⌜ r ≡ faultStepOf config run fault (length (now (out .entry))) ⌝ }
     ensures output { λ r. ⌜ now (out .exit) ≡ faultOutput (tablesOf config) (r .answer .answer) fault (now (out .entry)) ⌝ }
 {
-    let arm = run.arm;
-    let counts = run.counts;
     let mut states = run.states;
     let l = lent_fault(
         config.numbers,
@@ -92,8 +89,7 @@ pub fn step_fault(config: Config, run: Run, fault: u16, out: &mut [u8]) -> Stepp
         &config.latching,
         &config.argcounts,
         &config.args,
-        arm,
-        counts,
+        run.standing,
         &mut states,
         fault,
         out,

@@ -1,9 +1,10 @@
 // The packet step on any state. `inner_packet` is the step of a state that keeps its rules.
-use state::types::Arm;
 use state::types::Config;
-use state::types::Counts;
 use state::types::Numbers;
 use state::types::Run;
+use state::types::Standing;
+use state::types::with_arm;
+use state::types::with_counts;
 use step_effects::counts;
 use step_effects::dispatch;
 pub use step_packet::inner_packet;
@@ -28,8 +29,7 @@ pub fn lent_packet<'a>(
     latching: &'a [u8; 32],
     argcounts: &'a [u8; 32],
     args: &'a [u8; 512],
-    arm: Arm,
-    counts: Counts,
+    standing: Standing,
     states: &mut [u8; 32],
     packet: &[u8],
     out: &mut [u8],
@@ -37,7 +37,7 @@ pub fn lent_packet<'a>(
     ensures { λ r. ⌜ PacketLeaves
         (configFrom numbers (now (routeids .entry)) (now (dests .entry)) (now (protected .entry)) (now (faultids .entry))
         (now (responses .entry)) (now (latching .entry)) (now (argcounts .entry)) (now (args .entry)))
-        (runFrom arm counts (now (states .entry))) (now (packet .entry)) (now (out .entry)) r (now (states .exit)) (now (out .exit)) ⌝ }
+        (runFrom standing (now (states .entry))) (now (packet .entry)) (now (out .entry)) r (now (states .exit)) (now (out .exit)) ⌝ }
 {
     if !state_check::lent_keeps(
         numbers,
@@ -49,13 +49,13 @@ pub fn lent_packet<'a>(
         latching,
         argcounts,
         args,
-        arm,
+        standing,
         states,
     ) {
-        return types::kept(arm, counts, 20);
+        return types::kept(standing, 20);
     }
     if out.len() < dispatch::STEP_ROOM {
-        return types::kept(arm, counts, 21);
+        return types::kept(standing, 21);
     }
     let m = inner_packet(
         numbers,
@@ -63,15 +63,15 @@ pub fn lent_packet<'a>(
         dests,
         protected,
         faultids,
-        arm,
+        standing.arm,
         states,
         packet,
         out,
     );
-    let left = m.arm;
     let answer = m.answer;
-    let counted = counts::after_packet(counts, answer.answer, m.reset);
-    types::left_of(left, counted, answer)
+    let counted = counts::after_packet(standing.counts, answer.answer, m.reset);
+    let left = with_arm(with_counts(standing, counted), m.arm);
+    types::left_of(left, answer)
 }
 
 // The same of a configuration and a run by value.
@@ -79,8 +79,6 @@ pub fn step_packet(config: Config, run: Run, packet: &[u8], out: &mut [u8]) -> S
     ensures step { λ r. ⌜ r ≡ packetStepOf config run (now (packet .entry)) (length (now (out .entry))) ⌝ }
     ensures output { λ r. ⌜ now (out .exit) ≡ packetOutput (tablesOf config) (r .answer .answer) (now (packet .entry)) (now (out .entry)) ⌝ }
 {
-    let arm = run.arm;
-    let counts = run.counts;
     let mut states = run.states;
     let l = lent_packet(
         config.numbers,
@@ -92,8 +90,7 @@ pub fn step_packet(config: Config, run: Run, packet: &[u8], out: &mut [u8]) -> S
         &config.latching,
         &config.argcounts,
         &config.args,
-        arm,
-        counts,
+        run.standing,
         &mut states,
         packet,
         out,

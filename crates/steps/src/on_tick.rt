@@ -1,9 +1,9 @@
 // The tick step on any state.
-use state::types::Arm;
 use state::types::Config;
-use state::types::Counts;
 use state::types::Numbers;
 use state::types::Run;
+use state::types::Standing;
+use state::types::with_arm;
 use step_rules::types;
 use step_rules::types::Left;
 use step_rules::types::Stepped;
@@ -23,14 +23,13 @@ pub fn lent_tick<'a>(
     latching: &'a [u8; 32],
     argcounts: &'a [u8; 32],
     args: &'a [u8; 512],
-    arm: Arm,
-    counts: Counts,
+    standing: Standing,
     states: &'a [u8; 32],
 ) -> Left
     ensures { λ r. ⌜ stepLeft r (now (states .entry))
         ≡ tickStepOf (configFrom numbers (now (routeids .entry)) (now (dests .entry)) (now (protected .entry)) (now (faultids .entry))
         (now (responses .entry)) (now (latching .entry)) (now (argcounts .entry)) (now (args .entry)))
-        (runFrom arm counts (now (states .entry))) ⌝ }
+        (runFrom standing (now (states .entry))) ⌝ }
 {
     if !state_check::lent_keeps(
         numbers,
@@ -42,22 +41,20 @@ pub fn lent_tick<'a>(
         latching,
         argcounts,
         args,
-        arm,
+        standing,
         states,
     ) {
-        return types::kept(arm, counts, 20);
+        return types::kept(standing, 20);
     }
-    let ticked = step_arm::tick_of(arm);
-    let left = ticked.arm;
-    types::left_of(left, counts, types::bare(ticked.answer))
+    let ticked = step_arm::tick_of(standing.arm);
+    let left = with_arm(standing, ticked.arm);
+    types::left_of(left, types::bare(ticked.answer))
 }
 
 // The same of a configuration and a run by value.
 pub fn step_tick(config: Config, run: Run) -> Stepped
     ensures { λ r. ⌜ r ≡ tickStepOf config run ⌝ }
 {
-    let arm = run.arm;
-    let counts = run.counts;
     let states = run.states;
     let l = lent_tick(
         config.numbers,
@@ -69,8 +66,7 @@ pub fn step_tick(config: Config, run: Run) -> Stepped
         &config.latching,
         &config.argcounts,
         &config.args,
-        arm,
-        counts,
+        run.standing,
         &states,
     );
     types::stepped_of(l, states)

@@ -114,5 +114,5 @@ fn again(name: &[u8], l: Loaded, packet: &[u8], fault: u16, expected: u8, turns:
         plain += (s.answer.answer == expected) as u64;
         n += 1;
     }
-    show(name, plain, run.counts);
+    show(name, plain, run.standing.counts);
 }

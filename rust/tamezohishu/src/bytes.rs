@@ -76,9 +76,10 @@ impl Visit for Restore<'_> {
 
 impl Fields for ffi::Run {
     fn each<V: Visit>(&mut self, v: &mut V) {
-        v.byte(&mut self.armed);
-        v.two(&mut self.ticks);
-        let counts = &mut self.counts;
+        let standing = &mut self.standing;
+        v.byte(&mut standing.armed);
+        v.two(&mut standing.ticks);
+        let counts = &mut standing.counts;
         v.two(&mut counts.a);
         v.two(&mut counts.r);
         v.two(&mut counts.d);
@@ -92,9 +93,10 @@ impl Fields for ffi::Run {
 
 impl Fields for ffi::Config {
     fn each<V: Visit>(&mut self, v: &mut V) {
-        v.two(&mut self.numbers.ground);
-        v.two(&mut self.numbers.fault);
-        v.two(&mut self.numbers.base);
+        let settings = &mut self.numbers.settings;
+        v.two(&mut settings.ground);
+        v.two(&mut settings.fault);
+        v.two(&mut settings.base);
         v.count(&mut self.numbers.nroutes);
         v.twos(&mut self.routeids);
         v.bytes(&mut self.dests);
@@ -110,25 +112,29 @@ impl Fields for ffi::Config {
 }
 
 const NO_RUN: ffi::Run = ffi::Run {
-    armed: 0,
-    ticks: 0,
-    counts: ffi::Counts {
-        a: 0,
-        r: 0,
-        d: 0,
-        p: 0,
-        u: 0,
-        i: 0,
-        f: 0,
+    standing: ffi::Standing {
+        armed: 0,
+        ticks: 0,
+        counts: ffi::Counts {
+            a: 0,
+            r: 0,
+            d: 0,
+            p: 0,
+            u: 0,
+            i: 0,
+            f: 0,
+        },
     },
     states: [0; ROWS],
 };
 
 const NO_CONFIG: ffi::Config = ffi::Config {
     numbers: ffi::Numbers {
-        ground: 0,
-        fault: 0,
-        base: 0,
+        settings: ffi::Settings {
+            ground: 0,
+            fault: 0,
+            base: 0,
+        },
         nroutes: 0,
         nprotected: 0,
         nrows: 0,

@@ -26,17 +26,17 @@ pub struct FaultRow<'a> {
 impl Configuration {
     /// The source number of commands from the ground.
     pub fn ground_source(&self) -> u16 {
-        self.0.numbers.ground
+        self.0.numbers.settings.ground
     }
 
     /// The source number of fault responses.
     pub fn fault_source(&self) -> u16 {
-        self.0.numbers.fault
+        self.0.numbers.settings.fault
     }
 
     /// The first of the eight own ids.
     pub fn own_base(&self) -> u16 {
-        self.0.numbers.base
+        self.0.numbers.settings.base
     }
 
     // A count beyond its table, in a configuration made from damaged bytes, gives the whole table below.

@@ -7,14 +7,20 @@
 use crate::sizes::{PROTECTED_IDS, ROUTES, ROWS, ROW_ARGUMENTS};
 
 /// Which structs, signatures and numbers these are: `TZ_ABI` of the header.
-pub const ABI: u32 = 2;
+pub const ABI: u32 = 3;
+
+#[repr(C)]
+#[derive(Clone, Copy, PartialEq, Eq, Debug)]
+pub struct Settings {
+    pub ground: u16,
+    pub fault: u16,
+    pub base: u16,
+}
 
 #[repr(C)]
 #[derive(Clone, Copy, PartialEq, Eq, Debug)]
 pub struct Numbers {
-    pub ground: u16,
-    pub fault: u16,
-    pub base: u16,
+    pub settings: Settings,
     pub nroutes: usize,
     pub nprotected: usize,
     pub nrows: usize,
@@ -49,10 +55,16 @@ pub struct Counts {
 /// `armed` is a byte and no `bool`: a run from elsewhere may hold any, and the library judges it.
 #[repr(C)]
 #[derive(Clone, Copy, PartialEq, Eq, Debug)]
-pub struct Run {
+pub struct Standing {
     pub armed: u8,
     pub ticks: u16,
     pub counts: Counts,
+}
+
+#[repr(C)]
+#[derive(Clone, Copy, PartialEq, Eq, Debug)]
+pub struct Run {
+    pub standing: Standing,
     pub states: [u8; ROWS],
 }
 
@@ -94,18 +106,14 @@ pub struct Answer {
 /// What a step leaves beside the fault states that it was lent.
 #[repr(C)]
 pub struct Left {
-    pub armed: u8,
-    pub ticks: u16,
-    pub counts: Counts,
+    pub standing: Standing,
     pub answer: Answer,
 }
 
 /// What a piece of a recording comes to, beside the fault states that it was lent.
 #[repr(C)]
 pub struct Reached {
-    pub armed: u8,
-    pub ticks: u16,
-    pub counts: Counts,
+    pub standing: Standing,
     pub stop: u8,
     pub read: usize,
     pub count: usize,
@@ -163,9 +171,7 @@ macro_rules! lent {
                 latching: *const [u8; ROWS],
                 argcounts: *const [u8; ROWS],
                 args: *const [u8; ROWS * ROW_ARGUMENTS],
-                armed: u8,
-                ticks: u16,
-                counts: Counts,
+                standing: Standing,
                 states: $states,
                 $($($own: $type,)+)?
             ) -> $left;)+
@@ -188,16 +194,12 @@ macro_rules! lent {
                     &config.latching,
                     &config.argcounts,
                     &config.args,
-                    run.armed,
-                    run.ticks,
-                    run.counts,
+                    run.standing,
                     &mut run.states,
                     $($($own,)+)?
                 )
             };
-            run.armed = left.armed;
-            run.ticks = left.ticks;
-            run.counts = left.counts;
+            run.standing = left.standing;
             left
         })+
     };
@@ -223,6 +225,8 @@ mod tests {
     /// The same numbers stand in `tests/layout.c`, which a C compiler holds against the header.
     #[test]
     fn sizes_and_places() {
+        assert_eq!(size_of::<Settings>(), 6);
+        assert_eq!(offset_of!(Settings, base), 4);
         assert_eq!(size_of::<Numbers>(), 32);
         assert_eq!(offset_of!(Numbers, nroutes), 8);
         assert_eq!(offset_of!(Numbers, nrows), 24);
@@ -236,9 +240,10 @@ mod tests {
         assert_eq!(offset_of!(Config, argcounts), 640);
         assert_eq!(offset_of!(Config, args), 672);
         assert_eq!(size_of::<Counts>(), 14);
+        assert_eq!(size_of::<Standing>(), 18);
+        assert_eq!(offset_of!(Standing, ticks), 2);
+        assert_eq!(offset_of!(Standing, counts), 4);
         assert_eq!(size_of::<Run>(), 50);
-        assert_eq!(offset_of!(Run, ticks), 2);
-        assert_eq!(offset_of!(Run, counts), 4);
         assert_eq!(offset_of!(Run, states), 18);
         assert_eq!(size_of::<Judged>(), 6);
         assert_eq!(offset_of!(Judged, count), 4);
@@ -251,7 +256,6 @@ mod tests {
         assert_eq!(size_of::<Answer>(), 8);
         assert_eq!(offset_of!(Answer, written), 6);
         assert_eq!(size_of::<Left>(), 26);
-        assert_eq!(offset_of!(Left, counts), 4);
         assert_eq!(offset_of!(Left, answer), 18);
         assert_eq!(size_of::<Reached>(), 48);
         assert_eq!(offset_of!(Reached, stop), 18);

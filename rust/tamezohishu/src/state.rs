@@ -115,17 +115,17 @@ impl State {
 
     /// Whether the path is armed.
     pub fn is_armed(&self) -> bool {
-        self.0.armed != 0
+        self.0.standing.armed != 0
     }
 
     /// The ticks that remain of an armed state; 0 where it has no timeout, and in an unarmed one.
     pub fn ticks(&self) -> u16 {
-        self.0.ticks
+        self.0.standing.ticks
     }
 
     /// The seven counters.
     pub fn counters(&self) -> Counters {
-        Counters::from(self.0.counts)
+        Counters::from(self.0.standing.counts)
     }
 
     /// The states of the fault rows, in the order of [`Configuration::fault_rows`].

@@ -5,6 +5,8 @@
 #define PLACE(t, f, n) _Static_assert(offsetof(t, f) == n, #t "." #f)
 #define NUMBER(c, n) _Static_assert(c == n, #c)
 
+SIZE(tz_settings, 6);
+PLACE(tz_settings, base, 4);
 SIZE(tz_numbers, 32);
 PLACE(tz_numbers, nroutes, 8);
 PLACE(tz_numbers, nrows, 24);
@@ -18,9 +20,10 @@ PLACE(tz_config, latching, 608);
 PLACE(tz_config, argcounts, 640);
 PLACE(tz_config, args, 672);
 SIZE(tz_counts, 14);
+SIZE(tz_standing, 18);
+PLACE(tz_standing, ticks, 2);
+PLACE(tz_standing, counts, 4);
 SIZE(tz_run, 50);
-PLACE(tz_run, ticks, 2);
-PLACE(tz_run, counts, 4);
 PLACE(tz_run, states, 18);
 SIZE(tz_judged, 6);
 PLACE(tz_judged, count, 4);
@@ -33,7 +36,6 @@ PLACE(tz_loaded, run, 1200);
 SIZE(tz_answer, 8);
 PLACE(tz_answer, written, 6);
 SIZE(tz_left, 26);
-PLACE(tz_left, counts, 4);
 PLACE(tz_left, answer, 18);
 SIZE(tz_reached, 48);
 PLACE(tz_reached, stop, 18);

@@ -18,6 +18,10 @@ routes-judged-spec =
     (λ c κs. tt)
     (λ c κs. tt)
     (λ c κs. tt)
-    (λ c. simp
-    (held (c .before .before .before .before .before .before .routes-keep .ensures) (c .before .before .before .before .before .if1 .left))
-    (cc)))
+    (λ c.
+    let protected = c .before in
+    let dests = protected .before in
+    let ids = dests .before in
+    let kept = ids .before in
+    let rest = kept .before in
+    rw (held (rest .before .routes-keep .ensures) (rest .if1 .left), c .all .ensures, kept .protected-keep .ensures, ids .zero-words .ensures, dests .zero-bytes .ensures, protected .zero-words2 .ensures)))

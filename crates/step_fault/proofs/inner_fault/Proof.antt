@@ -1,77 +1,52 @@
--- `inner_fault`: no row, a row that is not enabled, or the response of the row at the place found.
-use mathlib.Core.Path.{refl}
-use Prim.Native.Nat.{_<_}
+-- `inner_fault`: what was found, and the response written and its row latched where it is to be sent on.
+use mathlib.Core.List.{[]}
+use mathlib.Core.Path.{_≡_}
+use Prim.Native.Nat.{ℕ, _<_}
+use lib.ListN.{getD}
 use native.Mathlib.Omega.{arith}
 use borrow.Author.Needs.{needs}
-use Rattle.state.specs.LookupLaws.{member-below}
-use Rattle.step_rules.specs.FaultMovedLaws.{moves-34, moves-13, moves-sent}
+use Rattle.step_rules.specs.FaultMovedLaws.{moves-unsent, moves-sent}
 use Rattle.step_fault.proofs.inner_fault.Statement.{statement}
 use Rattle.step_fault.proofs.inner_fault.Tie as tie
 
--- the row was found
+abbrev s : tie.After-responding → tie.Start
+s c = c .before .before .before
+
+-- it is to be sent on
 module _ (c : tie.Else1) where
-  abbrev found : tie.After-place
-  found = c .before .before
+  abbrev looked : tie.After-responding
+  looked = c .before .before .before
 
-  abbrev s : tie.Start
-  s = found .before .before .before
+  abbrev row : ℕ
+  row = looked .responding .result .row
 
-  in-table : found .place .result < 32
-  in-table = omega (arith, c .if1 .left, s .pre .0 .fault-ids .slots .within)
+  -- the row is enabled, whatever the columns that were not looked at
+  enabled-there : (row < s looked .args .numbers .nrows) × (getD (s looked .args .states .now) row 0 ≡ 1)
+  enabled-there =
+      let sends = looked .responding .ensures [] [] (s looked .args .args .now) (s looked .pre .0 .args-512) .sends (c .if1 .left) in
+      (sends .there, sends .was-enabled)
 
--- the row is enabled, and its response is routed
-module _ (c : tie.After-place2) where
-  abbrev on : tie.Else2
-  on = c .before .before .before
+  in-table : row < 32
+  in-table = omega (arith, enabled-there .0, s looked .pre .0 .responses-lent .fault-ids .slots .within)
 
-  abbrev known : tie.Else1
-  known = on .before .before
-
-  below : c .place2 .result < s known .args .numbers .nroutes
-  below =
-      let lent = s known .pre .0 in
-      member-below (lent .route-ids .slots) _ _ (c .place2 .ensures 8 refl .0) (lent .routed (found known .place .result) (known .if1 .left))
-
--- the response was sent, and then its row's state was found
-abbrev routed : tie.After-respond → tie.After-place2
-routed c = c .before .before .before .before .before
-
-abbrev sent : tie.After-row-after → tie.After-respond
-sent c = c .before .before .before
-
-returns-3 : tie.Need-returns-3
-returns-3 c protected =
-    let after = c .before .before in
-    let r = routed (sent after) in
-    let k = known r in
-    rw (c .dispatched .ensures)
-    (moves-sent _ _ _ _ _ (found k .place .ensures 6 refl .0) (k .if1 .left) (on r .if2 .left) _ _ _ _ (r .place2 .ensures 8 refl .0) (below r)
-    (sent after .respond .ensures) (after .row-after .ensures))
+abbrev sent : tie.After-respond → tie.Else1
+sent c = c .before .before .before .before .before
 
 pub inner-fault-spec : {M : Type 1} → statement M
 inner-fault-spec =
     tie.close
     (tie.spec
-    (λ c κs. c .before .before .pre .0 .fault-ids)
+    (λ c κs. (c .before .before .pre .0 .responses-lent, search needs))
+    (λ c protected. let f = c .before .before .before in
+    moves-unsent (f .responding .ensures protected _ _ (s f .pre .0 .args-512)) _ (c .if1 .taken))
+    (λ c. omega (arith, in-table c))
+    (λ c. omega (arith, in-table (c .before)))
+    (λ c κs. let e = c .before .before .before .before in
+    (omega arith, in-table e, omega (arith, s (looked e) .pre .0 .args-512, s (looked e) .pre .0 .responses-lent .args-within (row e) (enabled-there e .0))))
     (λ c κs. search needs)
-    (λ c protected. let none = c .before in
-    rw (c .bare .ensures) (moves-34 _ _ _ _ _ (none .before .before .place .ensures 6 refl .0) (none .if1 .taken)))
+    (λ c. omega (arith, in-table (sent (c .before .before .before))))
     (λ c. search needs)
-    (λ c κs. search needs)
-    (λ c protected. let off = c .before in
-    let k = off .before .before in
-    rw (c .bare2 .ensures) (moves-13 _ _ _ _ _ (found k .place .ensures 6 refl .0) (k .if1 .left) (off .if2 .taken)))
-    (λ c. search needs)
-    (λ c. search needs)
-    (λ c κs. search needs)
-    (λ c. search needs)
-    (λ c. search needs)
-    (λ c κs. let k = known (c .before .before .before .before) in
-    omega (arith, in-table k, s k .pre .0 .args-512, s k .pre .0 .args-within (found k .place .result) (k .if1 .left)))
-    (λ c κs. search needs)
-    (λ c. omega (arith, in-table (known (routed (sent c)))))
-    (λ c. let r = routed (sent c) in
-    omega (arith, below r, s (known r) .pre .0 .route-ids .slots .within))
-    (λ c κs. tt)
-    (λ c. search needs)
-    returns-3)
+    (λ c protected. let wrote = c .before .before .before in
+    let e = sent wrote in
+    let f = looked e in
+    moves-sent (f .responding .ensures protected _ _ (s f .pre .0 .args-512)) _ (e .if1 .left) _ _ _ (wrote .respond .ensures) (rw (enabled-there e .1) (c .row-after .ensures))))

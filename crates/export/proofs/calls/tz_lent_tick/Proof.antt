@@ -9,10 +9,10 @@ tz-lent-tick-spec =
     tie.close
     (tie.spec
     (λ c κs. search needs)
-    (λ c. rw (c .step-refused .ensures) (tick-untold _ _ _ _ _ (c .before .if1 .taken)))
+    (λ c. rw (c .step-refused .ensures) (tick-untold _ _ (c .before .if1 .taken)))
     (λ c κs. search needs)
     (λ c κs. search needs)
     (λ c κs. search needs)
     (λ c. let l = c .before in
     let a = l .before in
-    rw (c .step-out .ensures) (tick-told _ _ _ _ _ (a .before .if1 .left) _ (rw (a .arm-in .ensures) at (l .lent-tick .ensures)))))
+    rw (c .step-out .ensures) (tick-told _ _ (a .before .if1 .left) _ (rw (a .standing-in .ensures) at (l .lent-tick .ensures)))))

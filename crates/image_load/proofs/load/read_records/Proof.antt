@@ -7,7 +7,7 @@ use lib.ListN.{length}
 use Rattle.state.specs.Tables.{configFrom}
 use Rattle.image_rules.specs.RecordLaws.{Whole}
 use Rattle.image_load.specs.Loading.{nothing, only}
-use Rattle.image_load.specs.LoadWalk.{Walked, stops-at, start, ready, ends, cuts, refuses, goes-on}
+use Rattle.image_load.specs.LoadWalk.{Walked, stops-at, start, ready, ends, cuts, refuses, counts, goes-on}
 use Rattle.image_load.proofs.load.read_records.Statement.{statement}
 use Rattle.image_load.proofs.load.read_records.Tie as tie
 
@@ -25,7 +25,7 @@ module _ (c : tie.Else2 Inv-loop μ-loop) where
   head = c .before .before .before .before
 
   abbrev bs : List ℕ
-  bs = head .before .before .before .before .args .image .now
+  bs = head .before .before .before .before .before .args .image .now
 
   inside : head .loop .at < length bs
   inside = c .before .before .before .loop-test .taken
@@ -46,16 +46,22 @@ returns-2 c =
 
 returns-3 : tie.Need-returns-3 Inv-loop μ-loop
 returns-3 c =
-    let d = c .before .before .before in
+    let d = c .before .before in
     let f = found d in
     rw (c .stopped3 .ensures)
     (stops-at (c .before .if3 .taken) (refuses (head f .loop .inv) (inside f) (whole f) (d .take-record .ensures) (c .before .if3 .taken)))
+
+counted : tie.Need-numbers-behind-requires Inv-loop μ-loop
+counted c κs =
+    let d = c .before .before in
+    let f = found d in
+    counts (head f .loop .inv) (inside f) (whole f) (d .take-record .ensures) (c .before .if3 .left)
 
 loop-again : tie.Need-loop-again Inv-loop μ-loop
 loop-again c =
     let d = c .before .before .before in
     let f = found d in
-    goes-on (head f .loop .inv) (inside f) (whole f) (d .take-record .ensures) (c .before .if3 .left)
+    rw (c .numbers-behind .ensures) (goes-on (head f .loop .inv) (inside f) (whole f) (d .take-record .ensures) (c .before .before .if3 .left))
 
 pub read-records-spec : {M : Type 1} → statement M
 read-records-spec =
@@ -65,8 +71,9 @@ read-records-spec =
     μ-loop
     (λ c κs. tt)
     (λ c κs. tt)
+    (λ c κs. tt)
     (λ c. rw (c .stopped .ensures) (stops-at (λ z. omega arith) (only (nothing (c .before .if1 .taken) refl))))
-    (λ c. start (c .if1 .left) (rw (c .before .no-numbers .ensures) (c .before .before .before .pre)))
+    (λ c. start (c .if1 .left) (rw (c .before .no-rows .ensures, c .before .before .first-settings .ensures) (c .before .before .before .before .pre)))
     (λ c κs. c .before .loop .inv .inside)
     (λ c κs. tt)
     returns-2
@@ -77,6 +84,10 @@ read-records-spec =
     (λ c κs. ready (head (c .before .before .before .before .before .before .before .before .before .before) .loop .inv))
     (λ c κs. tt)
     returns-3
+    (λ c. let f = found (c .before) in omega (arith, whole f .end-is, whole f .inside))
+    (λ c. let f = found (c .before) in omega (arith, whole f .end-is, whole f .inside))
+    (λ c. let f = found (c .before) in omega (arith, whole f .end-is, whole f .inside))
+    counted
     (λ c. let f = found (c .before .before .before) in omega (arith, inside f, whole f .end-is, whole f .inside))
     loop-again
     (λ c κs. tt)

@@ -30,5 +30,4 @@ take-protected-spec =
     (λ c κs. omega (arith, is-two c))
     (λ c. omega (arith, is-two (c .before)))
     (λ c. omega (arith, is-two (c .before)))
-    (λ c. omega (arith, is-two (c .before)))
     returns-2)

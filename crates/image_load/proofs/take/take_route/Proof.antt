@@ -32,5 +32,4 @@ take-route-spec =
     (λ c. omega (arith, is-three (c .before)))
     (λ c. omega (arith, is-three (c .before .before)))
     (λ c. omega (arith, is-three (c .before .before)))
-    (λ c. omega (arith, is-three (c .before .before)))
     returns-2)

@@ -62,5 +62,4 @@ take-row-spec =
     (λ c. omega (arith, is-seven (c .before .before .before .before .before .before)))
     (λ c. omega (arith, is-seven (c .before .before .before .before .before .before)))
     (λ c κs. args-fit (c .before .before .before .before .before .before .before))
-    (λ c. omega (arith, is-seven (c .before .before .before .before .before .before .before .before)))
     returns-2)

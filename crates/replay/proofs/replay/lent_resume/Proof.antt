@@ -23,10 +23,10 @@ module _ (c : tie.After-lent-keeps) where
       configFrom (a .numbers) (a .routeids .now) (a .dests .now) (a .protected .now) (a .faultids .now) (a .responses .now) (a .latching .now) (a .argcounts .now) (a .args .now)
 
   abbrev run : Run
-  run = runFrom (entry .args .arm) (entry .args .counts) (entry .args .states .now)
+  run = runFrom (entry .args .standing) (entry .args .states .now)
 
   judged : {b : Bool} → c .lent-keeps .result ≡ b → keepsRules config run ≡ b
-  judged e = sym (c .lent-keeps .ensures .0 (run .counts)) ∙ e
+  judged e = sym (c .lent-keeps .ensures .0) ∙ e
 
 returns : tie.Need-returns
 returns c =

@@ -3,13 +3,13 @@ use Prim.Native.Nat.{_-_}
 use mathlib.Core.Path.{refl}
 use native.Mathlib.Omega.{arith}
 use lib.ListN.{length, drop}
-use Rattle.state.specs.Test.{clear}
+use Rattle.state.specs.Test.{allZero}
 use Rattle.state_check.specs.Walks.{Gathered, unwalked, on, ends, zero-at, zero-past}
 use Rattle.state_check.proofs.arrays.zero_bytes.Statement.{statement}
 use Rattle.state_check.proofs.arrays.zero_bytes.Tie as tie
 
 abbrev Inv-loop : tie.InvT-loop
-Inv-loop xs from ok₀ k₀ ok k = Gathered (clear (drop from xs)) (clear (drop k xs)) ok
+Inv-loop xs from ok₀ k₀ ok k = Gathered (allZero (drop from xs)) (allZero (drop k xs)) ok
 
 abbrev μ-loop : tie.MeasureT-loop
 μ-loop xs from ok₀ k₀ ok k = length xs - k

@@ -4,13 +4,13 @@ use mathlib.Core.Path.{_∙_}
 use mathlib.Core.Bool.{_&&_}
 use native.Mathlib.Omega.{arith}
 use lib.ListN.{drop}
-use Rattle.state.specs.Test.{clear}
+use Rattle.state.specs.Test.{allZero}
 use Rattle.state_check.specs.Walks.{Gathered, unwalked, on, ends, beside, zero-at, zero-past}
 use Rattle.state_check.proofs.arrays.zero_three.Statement.{statement}
 use Rattle.state_check.proofs.arrays.zero_three.Tie as tie
 
 abbrev Inv-loop : tie.InvT-loop
-Inv-loop a b c from ok₀ j₀ ok j = Gathered (clear (drop from a) && (clear (drop from b) && clear (drop from c))) (clear (drop j a) && (clear (drop j b) && clear (drop j c))) ok
+Inv-loop a b c from ok₀ j₀ ok j = Gathered (allZero (drop from a) && (allZero (drop from b) && allZero (drop from c))) (allZero (drop j a) && (allZero (drop j b) && allZero (drop j c))) ok
 
 abbrev μ-loop : tie.MeasureT-loop
 μ-loop a b c from ok₀ j₀ ok j = 32 - j

@@ -4,13 +4,13 @@ use mathlib.Core.Bool.{_&&_}
 use native.Mathlib.Omega.{arith}
 use lib.ListN.{drop}
 use borrow.Author.Needs.{needs}
-use Rattle.state.specs.Test.{clear}
+use Rattle.state.specs.Test.{allZero}
 use Rattle.state_check.specs.Walks.{Gathered, unwalked, on, ends, beside, zero-at, zero-past}
 use Rattle.state_check.proofs.arrays.zero_two.Statement.{statement}
 use Rattle.state_check.proofs.arrays.zero_two.Tie as tie
 
 abbrev Inv-loop : tie.InvT-loop
-Inv-loop a b from ok₀ j₀ ok j = Gathered (clear (drop from a) && clear (drop from b)) (clear (drop j a) && clear (drop j b)) ok
+Inv-loop a b from ok₀ j₀ ok j = Gathered (allZero (drop from a) && allZero (drop from b)) (allZero (drop j a) && allZero (drop j b)) ok
 
 abbrev μ-loop : tie.MeasureT-loop
 μ-loop a b from ok₀ j₀ ok j = 32 - j

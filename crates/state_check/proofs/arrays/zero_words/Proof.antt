@@ -4,13 +4,13 @@ use mathlib.Core.Path.{refl}
 use native.Mathlib.Omega.{arith}
 use lib.ListN.{length, drop}
 use borrow.Author.Needs.{needs}
-use Rattle.state.specs.Test.{clear}
+use Rattle.state.specs.Test.{allZero}
 use Rattle.state_check.specs.Walks.{Gathered, unwalked, on, ends, zero-at, zero-past}
 use Rattle.state_check.proofs.arrays.zero_words.Statement.{statement}
 use Rattle.state_check.proofs.arrays.zero_words.Tie as tie
 
 abbrev Inv-loop : tie.InvT-loop
-Inv-loop xs from ok₀ j₀ ok j = Gathered (clear (drop from xs)) (clear (drop j xs)) ok
+Inv-loop xs from ok₀ j₀ ok j = Gathered (allZero (drop from xs)) (allZero (drop j xs)) ok
 
 abbrev μ-loop : tie.MeasureT-loop
 μ-loop xs from ok₀ j₀ ok j = length xs - j

@@ -8,14 +8,14 @@ use borrow.Author.Needs.{needs}
 use Rattle.state.specs.Test.{rowsKept}
 use Rattle.state_check.specs.Each.{each}
 use Rattle.state_check.specs.Walks.{refuted, held, Gathered, unwalked, ends, refuses, passes, each-past, each-refuses, each-passes}
-use Rattle.state_check.specs.TableParts.{bare}
+use Rattle.state_check.specs.TableParts.{argless}
 use Rattle.state_check.specs.Apart.{among, rows-apart, rows-latch}
 use Rattle.state_check.proofs.tables.rows_keep.Statement.{statement}
 use Rattle.state_check.proofs.tables.rows_keep.Tie as tie
 
 abbrev Inv-loop : tie.InvT-loop
 Inv-loop ids n faultids responses latching m k₀ k =
-    let is = take n ids in Gathered (rowsKept is (bare faultids responses latching m)) (each (among is) (drop k (take m responses))) true
+    let is = take n ids in Gathered (rowsKept is (argless faultids responses latching m)) (each (among is) (drop k (take m responses))) true
 
 abbrev μ-loop : tie.MeasureT-loop
 μ-loop ids n faultids responses latching m k₀ k = m - k

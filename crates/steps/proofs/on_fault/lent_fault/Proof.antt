@@ -25,13 +25,13 @@ module _ (c : tie.After-lent-keeps) where
       configFrom (a .numbers) (a .routeids .now) (a .dests .now) (a .protected .now) (a .faultids .now) (a .responses .now) (a .latching .now) (a .argcounts .now) (a .args .now)
 
   abbrev run : Run
-  run = runFrom (entry .args .arm) (entry .args .counts) (entry .args .states .now)
+  run = runFrom (entry .args .standing) (entry .args .states .now)
 
   sized : LentSized config (run .states)
   sized = c .lent-keeps .ensures .1
 
   judged : {b : Bool} → c .lent-keeps .result ≡ b → keepsRules config run ≡ b
-  judged e = sym (c .lent-keeps .ensures .0 (run .counts)) ∙ e
+  judged e = sym (c .lent-keeps .ensures .0) ∙ e
 
 broken : (c : tie.Then1) → keepsRules (config (c .before)) (run (c .before)) ≡ false
 broken c = judged (c .before) (not-true (c .before .lent-keeps .result) (c .if1 .taken))
@@ -39,11 +39,15 @@ broken c = judged (c .before) (not-true (c .before .lent-keeps .result) (c .if1 
 kept : (c : tie.Else1) → keepsRules (config (c .before)) (run (c .before)) ≡ true
 kept c = judged (c .before) (not-false (c .before .lent-keeps .result) (c .if1 .left))
 
+-- the inner step, before what it leaves is put together
+abbrev stepped : tie.After-with-counts → tie.After-inner-fault
+stepped c = c .before .before .before .before
+
 returns : tie.Need-returns
-returns c = rw (c .kept .ensures) (fault-breaks _ _ _ _ _ _ (broken (c .before)))
+returns c = rw (c .kept .ensures) (fault-breaks (broken (c .before)))
 
 returns-2 : tie.Need-returns-2
-returns-2 c = let t = c .before in rw (c .kept2 .ensures) (fault-cramped _ _ _ _ _ _ (kept (t .before)) (t .if2 .taken))
+returns-2 c = let t = c .before in rw (c .kept2 .ensures) (fault-cramped (kept (t .before)) (t .if2 .taken))
 
 inner-fault-requires : tie.Need-inner-fault-requires
 inner-fault-requires c κs =
@@ -53,10 +57,13 @@ inner-fault-requires c κs =
 
 returns-3 : tie.Need-returns-3
 returns-3 c =
-    let m = c .before .before .before .before in
+    let counted = c .before in
+    let m = stepped counted in
     let room = m .before .before .before in
     let j = room .before .before in
-    rw (c .left-of .ensures) (fault-leaves _ _ _ _ _ _ (kept (room .before)) (sized j .columns) (room .if2 .left) _ _ _ _ (m .inner-fault .ensures (config j .protected)) (c .before .after-fault .ensures))
+    rw (c .left-of .ensures)
+    (fault-leaves (kept (room .before)) (room .if2 .left) (m .inner-fault .ensures (config j .protected))
+    (counted .before .after-fault .ensures) (counted .with-counts .ensures))
 
 pub lent-fault-spec : {M : Type 1} → statement M
 lent-fault-spec =
@@ -69,6 +76,7 @@ lent-fault-spec =
     returns-2
     inner-fault-requires
     (λ c κs. search needs)
+    (λ c κs. tt)
     (λ c κs. tt)
     (λ c. search needs)
     returns-3)

@@ -26,13 +26,13 @@ module _ (c : tie.After-lent-keeps) where
       configFrom (a .numbers) (a .routeids .now) (a .dests .now) (a .protected .now) (a .faultids .now) (a .responses .now) (a .latching .now) (a .argcounts .now) (a .args .now)
 
   abbrev run : Run
-  run = runFrom (entry .args .arm) (entry .args .counts) (entry .args .states .now)
+  run = runFrom (entry .args .standing) (entry .args .states .now)
 
   sized : LentSized config (run .states)
   sized = c .lent-keeps .ensures .1
 
   judged : {b : Bool} → c .lent-keeps .result ≡ b → keepsRules config run ≡ b
-  judged e = sym (c .lent-keeps .ensures .0 (run .counts)) ∙ e
+  judged e = sym (c .lent-keeps .ensures .0) ∙ e
 
 broken : (c : tie.Then1) → keepsRules (config (c .before)) (run (c .before)) ≡ false
 broken c = judged (c .before) (not-true (c .before .lent-keeps .result) (c .if1 .taken))
@@ -40,11 +40,15 @@ broken c = judged (c .before) (not-true (c .before .lent-keeps .result) (c .if1 
 kept : (c : tie.Else1) → keepsRules (config (c .before)) (run (c .before)) ≡ true
 kept c = judged (c .before) (not-false (c .before .lent-keeps .result) (c .if1 .left))
 
+-- the inner step, before what it leaves is put together
+abbrev stepped : tie.After-with-counts → tie.After-inner-packet
+stepped c = c .before .before .before .before .before
+
 returns : tie.Need-returns
-returns c = rw (c .kept .ensures) (packet-breaks _ _ _ _ _ _ (broken (c .before)))
+returns c = rw (c .kept .ensures) (packet-breaks (broken (c .before)))
 
 returns-2 : tie.Need-returns-2
-returns-2 c = let t = c .before in rw (c .kept2 .ensures) (packet-cramped _ _ _ _ _ _ (kept (t .before)) (t .if2 .taken))
+returns-2 c = let t = c .before in rw (c .kept2 .ensures) (packet-cramped (kept (t .before)) (t .if2 .taken))
 
 inner-packet-requires : tie.Need-inner-packet-requires
 inner-packet-requires c κs =
@@ -55,10 +59,14 @@ inner-packet-requires c κs =
 
 returns-3 : tie.Need-returns-3
 returns-3 c =
-    let m = c .before .before .before .before .before .before in
+    let armed = c .before in
+    let counted = armed .before in
+    let m = stepped counted in
     let room = m .before .before .before in
     let a = config (room .before .before) in
-    rw (c .left-of .ensures) (packet-leaves _ _ _ _ _ _ (kept (room .before)) (room .if2 .left) _ _ _ _ (m .inner-packet .ensures (a .responses) (a .latching) (a .argcounts) (a .args)) (c .before .after-packet .ensures))
+    rw (c .left-of .ensures)
+    (packet-leaves (kept (room .before)) (room .if2 .left) (m .inner-packet .ensures (a .responses) (a .latching) (a .argcounts) (a .args))
+    (counted .before .after-packet .ensures) (counted .with-counts .ensures) (armed .with-arm .ensures))
 
 pub lent-packet-spec : {M : Type 1} → statement M
 lent-packet-spec =
@@ -71,6 +79,8 @@ lent-packet-spec =
     returns-2
     inner-packet-requires
     (λ c κs. search needs)
+    (λ c κs. tt)
+    (λ c κs. tt)
     (λ c κs. tt)
     (λ c. search needs)
     returns-3)

@@ -22,10 +22,10 @@ module _ (c : tie.After-lent-keeps) where
       configFrom (a .numbers) (a .routeids .now) (a .dests .now) (a .protected .now) (a .faultids .now) (a .responses .now) (a .latching .now) (a .argcounts .now) (a .args .now)
 
   abbrev run : Run
-  run = runFrom (entry .args .arm) (entry .args .counts) (entry .args .states .now)
+  run = runFrom (entry .args .standing) (entry .args .states .now)
 
   judged : {b : Bool} → c .lent-keeps .result ≡ b → keepsRules config run ≡ b
-  judged e = sym (c .lent-keeps .ensures .0 (run .counts)) ∙ e
+  judged e = sym (c .lent-keeps .ensures .0) ∙ e
 
 pub lent-tick-spec : {M : Type 1} → statement M
 lent-tick-spec =
@@ -34,10 +34,14 @@ lent-tick-spec =
     (λ c κs. search needs)
     (λ c κs. search needs)
     (λ c. let j = c .before .before in
-    rw (c .kept .ensures) (tick-breaks _ _ _ _ (judged j (not-true (j .lent-keeps .result) (c .before .if1 .taken)))))
+    rw (c .kept .ensures) (tick-breaks _ (run j) (judged j (not-true (j .lent-keeps .result) (c .before .if1 .taken)))))
     (λ c κs. search needs)
     (λ c κs. search needs)
     (λ c κs. tt)
-    (λ c. let t = c .before .before .before in
+    (λ c κs. tt)
+    (λ c. let answered = c .before in
+    let armed = answered .before in
+    let t = armed .before in
     let j = t .before .before in
-    rw (c .left-of .ensures) (tick-leaves _ _ _ _ (judged j (not-false (j .lent-keeps .result) (t .before .if1 .left))) _ _ (t .tick-of .ensures) (c .before .bare .ensures))))
+    rw (c .left-of .ensures)
+    (tick-leaves _ (run j) (judged j (not-false (j .lent-keeps .result) (t .before .if1 .left))) (t .tick-of .ensures) (answered .bare .ensures) (armed .with-arm .ensures))))
