@@ -1,7 +1,7 @@
 //! `bin/cargo run --release -p differential`: the proved library beside the independent reading.
 //!
-//! `--seed N`, `--packets N`, `--images N`, `--sessions N`, `--states N`, `--builds N` (cases of a part), `--part NAME` (that
-//! one alone), `--case K` (that one case of each part that runs, and no table).
+//! `--seed N`, `--packets N`, `--images N`, `--sessions N`, `--states N`, `--builds N`, `--saved N` (cases of a part), `--part
+//! NAME` (that one alone), `--case K` (that one case of each part that runs, and no table).
 
 use differential::dice::Dice;
 use differential::parts::{Part, PARTS};
@@ -11,15 +11,17 @@ use std::process::ExitCode;
 use std::time::Instant;
 
 const HELP: &str = "\
-usage: differential [--seed N] [--packets N] [--images N] [--sessions N] [--states N] [--builds N] [--part NAME] [--case K]
+usage: differential [--seed N] [--packets N] [--images N] [--sessions N] [--states N] [--builds N] [--saved N] [--part NAME]
+                    [--case K]
 Compares the proved library with the independent reading on made-up input, says how often each answer and refusal was met, and
 ends with 1 if the two differ or a number was never met.
   --seed N                  what the input is made from; the same seed makes the same input
-  --packets N, --images N, --sessions N, --states N, --builds N   how many cases a part has
-  --part NAME               that part alone: packets, images, sessions, states or builds
+  --packets N, --images N, --sessions N, --states N, --builds N, --saved N   how many cases a part has
+  --part NAME               that part alone: packets, images, sessions, states, builds or saved
   --case K                  that one case of each part that runs, and no table
 In the table, form is what keeps an accepted packet from the builder's form: 0 nothing, 1 other sequence flags, 2 the high bit
-of the function code, 4 a pad byte that is not zero, or their sum.";
+of the function code, 4 a pad byte that is not zero, or their sum; saved is what was said of the bytes of a saved form: 0 taken,
+1 another form, 2 another version, 3 cut, 4 too long, 5 damaged, 6 of another configuration.";
 
 struct Wanted {
     seed: u64,

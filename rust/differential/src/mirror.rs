@@ -1,7 +1,7 @@
-//! The same state on both sides: the reading's structs, and the bytes that `tamezohishu` saves a state to.
+//! The same state on both sides: the reading's structs, and the bytes that `tamezohishu` saves a state and a configuration to.
 
-use crate::raw;
-use tamezohishu::{Configuration, State, CONFIGURATION_BYTES, STATE_BYTES};
+use crate::{raw, saved};
+use tamezohishu::{CONFIGURATION_BYTES, STATE_BYTES};
 
 /// Puts bytes one behind another.
 struct Writer<'a>(&'a mut [u8]);
@@ -23,29 +23,26 @@ impl Writer<'_> {
     }
 }
 
-/// The reading's run as the bytes of a state. `armed` is a byte of its own: the boundary can hold more than yes and no.
-pub fn state_bytes(run: &reading::Run, armed: u8) -> [u8; STATE_BYTES] {
+/// The reading's run as a saved state, under a configuration whose saved form has this check value. `armed` is a byte of its
+/// own: the boundary can hold more than yes and no.
+pub fn state_bytes(run: &reading::Run, armed: u8, check: [u8; 4]) -> [u8; STATE_BYTES] {
     let mut bytes = [0; STATE_BYTES];
     let mut w = Writer(&mut bytes);
+    w.put(&saved::STATE);
+    w.put(&check);
     w.put(&[armed]);
     w.twos(&[run.ticks]);
     w.twos(&run.counts);
     w.put(&run.states);
+    saved::seal(&mut bytes);
     bytes
 }
 
-pub fn state(run: &reading::Run, armed: u8) -> State {
-    State::from_bytes(&state_bytes(run, armed))
-}
-
-/// Whether the state is the reading's run.
-pub fn same_state(state: &State, run: &reading::Run) -> bool {
-    state.to_bytes() == state_bytes(run, u8::from(run.armed))
-}
-
+/// The reading's configuration as a saved configuration.
 pub fn configuration_bytes(config: &reading::Config) -> [u8; CONFIGURATION_BYTES] {
     let mut bytes = [0; CONFIGURATION_BYTES];
     let mut w = Writer(&mut bytes);
+    w.put(&saved::CONFIGURATION);
     w.twos(&[config.ground, config.fault, config.base]);
     w.count(config.nroutes);
     w.twos(&config.routeids);
@@ -58,11 +55,14 @@ pub fn configuration_bytes(config: &reading::Config) -> [u8; CONFIGURATION_BYTES
     w.put(&config.latching);
     w.put(&config.argcounts);
     w.put(&config.args);
+    saved::seal(&mut bytes);
     bytes
 }
 
-pub fn configuration(config: &reading::Config) -> Configuration {
-    Configuration::from_bytes(&configuration_bytes(config))
+/// The check value at the end of a saved configuration.
+pub fn check_of(bytes: &[u8; CONFIGURATION_BYTES]) -> [u8; 4] {
+    let [.., a, b, c, d] = *bytes;
+    [a, b, c, d]
 }
 
 /// Whether two configurations are the same in every place, used or not.

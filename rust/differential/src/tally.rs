@@ -13,6 +13,9 @@ pub struct Tally {
     /// What keeps an accepted packet from the form that the builder makes: 0 nothing; 1 other sequence flags, 2 the high bit
     /// of the function code, 4 a pad byte that is not zero, or the sum of those that do.
     pub form: Numbers,
+    /// What was said of the bytes of a saved form: 0 taken, 1 another form, 2 another version, 3 cut, 4 too long, 5 damaged,
+    /// 6 of another configuration.
+    pub saved: Numbers,
 }
 
 /// How often each number from 0 to 255 was met.
@@ -45,7 +48,7 @@ fn or_zero<T: Copy + Into<u8>>(refusals: &[T]) -> Vec<u8> {
 
 impl Tally {
     /// The lists, each with the numbers that have to be met: every one that has a name.
-    fn lists(&self) -> [(&'static str, &Numbers, Vec<u8>); 6] {
+    fn lists(&self) -> [(&'static str, &Numbers, Vec<u8>); 7] {
         [
             ("judge", &self.judge, or_zero(Refusal::NAMED)),
             ("loading", &self.load, or_zero(LoadRefusal::NAMED)),
@@ -53,6 +56,7 @@ impl Tally {
             ("replay", &self.stop, named(Stop::NAMED).collect()),
             ("build", &self.build, or_zero(BuildRefusal::NAMED)),
             ("form", &self.form, (0..=7).collect()),
+            ("saved", &self.saved, (0..=6).collect()),
         ]
     }
 

@@ -42,6 +42,13 @@ fn builds() {
     assert_eq!(missing.iter().find(of_builds), None);
 }
 
+/// A thousand states that sessions reached come back as they were saved, and harm is told in every way that there is.
+#[test]
+fn saved() {
+    let missing = alike(5, 1_000).missing();
+    assert_eq!(missing.iter().find(|name| name.starts_with("saved ")), None);
+}
+
 /// Two cases are different, and one is the same each time.
 #[test]
 fn dice_are_of_their_case() {

@@ -1,26 +1,57 @@
 //! A state and a configuration as bytes, to keep them between two runs of a program.
 //!
-//! The fields stand table by table, each count before its table, with nothing between them; numbers are little-endian, the
-//! three table counts take eight bytes each. This order is the file's own: the structs of the C header may move, it does not.
+//! Both forms begin with a mark of three bytes and a version, 1, and end with a check value: the CRC-32 ([`crate::check`]) of
+//! all bytes before it. Between them the fields stand table by table, each count before its table, with nothing between them.
+//! Numbers are little-endian; check values take four bytes, the three table counts eight bytes each. This order is the forms'
+//! own: the structs of the C header may move, it does not.
 //!
-//! State, 49 bytes: armed (1), ticks (2), the counters A, R, D, P, U, I, F (2 each), the states of the 32 fault rows (1 each).
+//! State, 61 bytes:
 //!
-//! Configuration, 1,182 bytes: ground source, fault source, own base (2 each); count of routes (8), 128 route ids (2 each),
-//! 128 destinations (1 each); count of protected ids (8), 32 protected ids (2 each); count of fault rows (8), 32 fault ids
-//! (2 each), 32 response ids (2 each), 32 latching bytes, 32 argument counts, 32 times 16 argument bytes.
+//! | byte | |
+//! |---|---|
+//! | 0 | `54 5A 53`, "TZS" |
+//! | 3 | version, 1 |
+//! | 4 | check value of its configuration: the last four bytes of that one's saved form |
+//! | 8 | armed (1), ticks (2), the counters A, R, D, P, U, I, F (2 each), the states of the 32 fault rows (1 each): 49 bytes |
+//! | 57 | check value of bytes 0 to 56 |
 //!
-//! No bytes are refused. Where they break a rule of a state, the next step says so (answer 20); damage that keeps the rules is
-//! not found. Who needs that keeps a checksum of his own beside them.
+//! Configuration, 1,190 bytes:
+//!
+//! | byte | |
+//! |---|---|
+//! | 0 | `54 5A 43`, "TZC" |
+//! | 3 | version, 1 |
+//! | 4 | ground source, fault source, own base (2 each) |
+//! | 10 | count of routes (8), 128 route ids (2 each), 128 destinations (1 each) |
+//! | 402 | count of protected ids (8), 32 protected ids (2 each) |
+//! | 474 | count of fault rows (8), 32 fault ids (2 each), 32 response ids (2 each) |
+//! | 610 | 32 latching bytes, 32 argument counts, 32 times 16 argument bytes |
+//! | 1,186 | check value of bytes 0 to 1,185 |
+//!
+//! A check value finds every change of up to 32 bits in a row, and of other damage all but about one in 2^32. It is no
+//! signature: who means to can make a form that fits. What a form says is not judged here. A state or a configuration that
+//! breaks a rule and was saved so is taken back so, and the next step says it (answer 20).
 
 use crate::configuration::Configuration;
 use crate::ffi;
+use crate::saved::{Form, SavedError, CHECK, HEAD};
 use crate::sizes::{PROTECTED_IDS, ROUTES, ROWS, ROW_ARGUMENTS};
 use crate::state::State;
 
 /// How many bytes a state is saved to.
-pub const STATE_BYTES: usize = 49;
+pub const STATE_BYTES: usize = 61;
 /// How many bytes a configuration is saved to.
-pub const CONFIGURATION_BYTES: usize = 1182;
+pub const CONFIGURATION_BYTES: usize = 1190;
+
+const STATE: Form = Form {
+    mark: *b"TZS",
+    bytes: STATE_BYTES,
+};
+
+const CONFIGURATION: Form = Form {
+    mark: *b"TZC",
+    bytes: CONFIGURATION_BYTES,
+};
 
 /// The fields of both, in order, each handed to `v`. One list serves writing and reading.
 trait Fields {
@@ -150,40 +181,68 @@ const NO_CONFIG: ffi::Config = ffi::Config {
 };
 
 impl State {
-    /// The state as bytes: armed (1 byte), ticks (2, little-endian), the counters A, R, D, P, U, I, F (2 each), the states of
-    /// the 32 fault rows (1 each).
-    pub fn to_bytes(&self) -> [u8; STATE_BYTES] {
+    /// The state as bytes, with the check value of the configuration it belongs to.
+    pub fn to_bytes(&self, configuration: &Configuration) -> [u8; STATE_BYTES] {
         let mut bytes = [0; STATE_BYTES];
-        self.clone().0.each(&mut Save(bytes.iter_mut()));
+        let mut places = Save(bytes[HEAD..].iter_mut());
+        places.bytes(&mut configuration.check());
+        self.clone().0.each(&mut places);
+        STATE.seal(&mut bytes);
         bytes
     }
 
-    /// A state from bytes. None are refused: steps on a state that breaks its rules answer [`crate::Outcome::BadState`].
+    /// A state from its bytes, to go on under that configuration; or why they are not taken.
     ///
-    /// Other damage is not found: `armed` changed to 1 where no ticks remain (as after an arm command with timeout 0), other
-    /// ticks up to 255 in an armed state, other counters, a fault row in another state that it may have, and the state of
-    /// another configuration where it happens to fit.
-    pub fn from_bytes(bytes: &[u8; STATE_BYTES]) -> State {
+    /// No rule of a state is asked for here: steps on one that was saved and breaks its rules answer
+    /// [`crate::Outcome::BadState`].
+    ///
+    /// ```
+    /// use tamezohishu::{Configuration, SavedError, State};
+    ///
+    /// # fn main() -> Result<(), Box<dyn std::error::Error>> {
+    /// let image = [6, 0, 1, 0, 1, 0, 2, 0, 100, 0, 3, 0, 2, 0, 20, 0, 2];
+    /// let (configuration, state) = Configuration::load(&image)?;
+    /// let mut bytes = state.to_bytes(&configuration);
+    /// assert_eq!(State::from_bytes(&configuration, &bytes)?, state);
+    ///
+    /// bytes[8] ^= 1; // armed, and no ticks remain: this keeps every rule of a state
+    /// let damaged = State::from_bytes(&configuration, &bytes);
+    /// assert_eq!(damaged, Err(SavedError::Damaged));
+    /// # Ok(())
+    /// # }
+    /// ```
+    pub fn from_bytes(configuration: &Configuration, bytes: &[u8]) -> Result<State, SavedError> {
+        let mut places = Restore(STATE.open(bytes)?.iter());
+        let mut check = [0; CHECK];
+        places.bytes(&mut check);
+        if check != configuration.check() {
+            return Err(SavedError::OtherConfiguration);
+        }
         let mut run = NO_RUN;
-        run.each(&mut Restore(bytes.iter()));
-        State(run)
+        run.each(&mut places);
+        Ok(State(run))
     }
 }
 
 impl Configuration {
-    /// The configuration as bytes, in the order above: two-byte numbers and eight-byte counts, little-endian.
+    /// The configuration as bytes.
     pub fn to_bytes(&self) -> [u8; CONFIGURATION_BYTES] {
         let mut bytes = [0; CONFIGURATION_BYTES];
-        self.clone().0.each(&mut Save(bytes.iter_mut()));
+        self.clone().0.each(&mut Save(bytes[HEAD..].iter_mut()));
+        CONFIGURATION.seal(&mut bytes);
         bytes
     }
 
-    /// A configuration from bytes. None are refused: steps under one that breaks its rules answer
-    /// [`crate::Outcome::BadState`]. One that was changed and keeps them (another destination from 1 to 31, say) is taken as
-    /// it is.
-    pub fn from_bytes(bytes: &[u8; CONFIGURATION_BYTES]) -> Configuration {
+    /// A configuration from its bytes, or why they are not taken. As with a state, no rule is asked for here.
+    pub fn from_bytes(bytes: &[u8]) -> Result<Configuration, SavedError> {
         let mut config = NO_CONFIG;
-        config.each(&mut Restore(bytes.iter()));
-        Configuration(config)
+        config.each(&mut Restore(CONFIGURATION.open(bytes)?.iter()));
+        Ok(Configuration(config))
+    }
+
+    /// The check value that its saved form ends with, by which a saved state knows it.
+    fn check(&self) -> [u8; CHECK] {
+        let [.., a, b, c, d] = self.to_bytes();
+        [a, b, c, d]
     }
 }

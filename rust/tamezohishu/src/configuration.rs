@@ -39,7 +39,7 @@ impl Configuration {
         self.0.numbers.settings.base
     }
 
-    // A count beyond its table, in a configuration made from damaged bytes, gives the whole table below.
+    // A count beyond its table, in a configuration from bytes that say so, gives the whole table below.
 
     /// The routes in use, by rising id.
     pub fn routes(&self) -> impl Iterator<Item = Route> + '_ {

@@ -11,9 +11,10 @@
 //! - [`judge`] and [`arguments`] ask about a packet by itself.
 //! - [`build`] makes a packet from its [`Fields`], [`build_into`] the same in a lent buffer; what it makes, [`judge`] accepts.
 //! - [`replay`] runs a whole [`Recording`] under an image, [`State::resume`] a piece of one.
-//! - [`State::to_bytes`] and [`State::from_bytes`] keep a state between two runs of a program. The library judges a state
-//!   at each step, this crate never does: steps on one that breaks its rules answer [`Outcome::BadState`]. That is no test for
-//!   damage: bytes that were changed and keep the rules ([`State::from_bytes`] names some) are taken as they are.
+//! - [`State::to_bytes`] and [`State::from_bytes`] keep a state between two runs of a program, [`Configuration::to_bytes`] and
+//!   [`Configuration::from_bytes`] a configuration. Both forms have a check value, a state that of its configuration too, so
+//!   that damage and a mix-up are refused ([`SavedError`]). That is all that is checked here: the library judges a state at
+//!   each step, and steps on one that breaks its rules answer [`Outcome::BadState`].
 //!
 //! Nothing here panics, whatever the bytes. A number that this crate has no name for is kept (`Other`).
 //!
@@ -44,12 +45,14 @@
 mod archive;
 mod builder;
 mod bytes;
+mod check;
 mod configuration;
 mod ffi;
 mod load;
 mod numbers;
 mod packet;
 mod replay;
+mod saved;
 mod sizes;
 mod state;
 
@@ -61,6 +64,7 @@ pub use load::LoadError;
 pub use numbers::{BuildRefusal, FaultState, LoadRefusal, Outcome, Refusal, Stop};
 pub use packet::{arguments, judge, Judged};
 pub use replay::{replay, Piece, Recording, Replay, Replies, Reply, TooLong};
+pub use saved::SavedError;
 pub use sizes::{
     LONGEST_BUILT, PROTECTED_IDS, REPLY_HEAD, REPLY_ROOM, ROOM, ROUTES, ROWS, ROW_ARGUMENTS,
 };

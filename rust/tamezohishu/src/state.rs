@@ -9,7 +9,7 @@ use std::fmt;
 ///
 /// It belongs to the [`Configuration`] it was loaded with. The library judges both at each step, and answers
 /// [`Outcome::BadState`] where they break a rule, changing nothing. A state of another configuration may happen to keep the
-/// rules: then nothing tells.
+/// rules: then no step tells. A saved state knows its configuration ([`State::from_bytes`]).
 #[derive(Clone, PartialEq, Eq, Debug)]
 pub struct State(pub(crate) ffi::Run);
 

@@ -1,5 +1,5 @@
-//! What the wrapper adds to the library: parts of the caller's packet, errors, bytes of a state, replies. What the library
-//! answers is compared with an independent reading in the crate `differential`.
+//! What the wrapper adds to the library: parts of the caller's packet, errors, replies; the saved forms stand in `saved.rs`.
+//! What the library answers is compared with an independent reading in the crate `differential`.
 
 use tamezohishu::*;
 
@@ -154,74 +154,6 @@ fn a_refused_image() {
     let mut out = [1; 300];
     assert_eq!(replay(&[], &[], &mut out), Err(error));
     assert_eq!(out, [1; 300]);
-}
-
-#[test]
-fn a_state_is_saved_and_restored() {
-    let (configuration, mut state) = loaded();
-    let mut out = [0; ROOM];
-    state.packet(&configuration, ARM, &mut out);
-    state.fault(&configuration, 7, &mut out);
-    let bytes = state.to_bytes();
-    assert_eq!(bytes[..7], [1, 2, 0, 1, 0, 0, 0]);
-    assert_eq!(bytes[17], 2);
-    assert_eq!(State::from_bytes(&bytes), state);
-    let kept = Configuration::from_bytes(&configuration.to_bytes());
-    assert_eq!(kept, configuration);
-    // Every byte of both has a place of its own.
-    for at in 0..STATE_BYTES {
-        let mut other = bytes;
-        other[at] ^= 0x5A;
-        assert_eq!(State::from_bytes(&other).to_bytes(), other);
-    }
-    for at in 0..CONFIGURATION_BYTES {
-        let mut other = configuration.to_bytes();
-        other[at] ^= 0x5A;
-        assert_eq!(Configuration::from_bytes(&other).to_bytes(), other);
-    }
-}
-
-#[test]
-fn a_state_that_breaks_a_rule_is_answered_20() {
-    let (configuration, state) = loaded();
-    let mut bytes = state.to_bytes();
-    bytes[0] = 2;
-    let damaged = State::from_bytes(&bytes);
-    let mut state = damaged.clone();
-    assert_eq!(state.tick(&configuration).outcome, Outcome::BadState);
-    assert_eq!(state, damaged);
-    let piece = state.resume(&configuration, &[], &mut []);
-    assert_eq!(
-        (piece.stop, piece.read, piece.count),
-        (Stop::BadState, 0, 0)
-    );
-
-    // A count far beyond its table: steps answer, and the tables can still be looked at.
-    let mut bytes = configuration.to_bytes();
-    bytes[6..14].fill(255);
-    let damaged = Configuration::from_bytes(&bytes);
-    let (_, mut state) = loaded();
-    assert_eq!(state.tick(&damaged).outcome, Outcome::BadState);
-    assert_eq!(damaged.routes().count(), ROUTES);
-}
-
-/// 20 comes where a rule breaks, and nowhere else: these runs were damaged too, and nothing can tell.
-#[test]
-fn damage_that_keeps_the_rules_is_not_found() {
-    let (configuration, state) = loaded();
-    let good = state.to_bytes();
-    // Armed, with no ticks that remain: as after an arm command with timeout 0.
-    let mut bytes = good;
-    bytes[0] = 1;
-    let mut state = State::from_bytes(&bytes);
-    assert_eq!(state.tick(&configuration).outcome, Outcome::Tick);
-    assert!(state.is_armed());
-    // A counter that is another.
-    let mut bytes = good;
-    bytes[3] ^= 0x80;
-    let mut state = State::from_bytes(&bytes);
-    assert_eq!(state.tick(&configuration).outcome, Outcome::Tick);
-    assert_eq!(state.counters().accepted, 0x80);
 }
 
 #[test]

@@ -9,6 +9,7 @@ use crate::tally::Tally;
 use reading::{Config, Run};
 use tamezohishu::{Configuration, State};
 
+#[derive(Clone)]
 pub struct Both {
     pub config: Config,
     pub run: Run,
@@ -16,39 +17,57 @@ pub struct Both {
     armed: u8,
     configuration: Configuration,
     state: State,
+    /// The check value of the saved configuration.
+    check: [u8; 4],
 }
 
 type Four = (u8, u16, u8, u16);
 
 impl Both {
-    pub fn new(config: Config, run: Run, armed: u8) -> Both {
-        Both {
-            configuration: mirror::configuration(&config),
-            state: mirror::state(&run, armed),
+    /// The crate gets its side as saved forms, and takes any that say the truth about themselves.
+    pub fn new(config: Config, run: Run, armed: u8) -> Result<Both, String> {
+        let saved = mirror::configuration_bytes(&config);
+        let refused = |told| format!("a saved form is refused: {told}\n{}", hex(&saved));
+        let configuration = Configuration::from_bytes(&saved).map_err(refused)?;
+        let check = mirror::check_of(&saved);
+        let state = mirror::state_bytes(&run, armed, check);
+        let state = State::from_bytes(&configuration, &state).map_err(refused)?;
+        Ok(Both {
             config,
             run,
             armed,
-        }
+            configuration,
+            state,
+            check,
+        })
+    }
+
+    pub fn configuration(&self) -> &Configuration {
+        &self.configuration
+    }
+
+    pub fn state(&self) -> &State {
+        &self.state
     }
 
     /// What shows a difference again.
-    fn told(&self, before: &[u8]) -> String {
+    fn told(&self, before: &State) -> String {
         let config = mirror::configuration_bytes(&self.config);
         format!(
-            "state before (layout of tamezohishu::State): {}\nconfiguration (layout of tamezohishu::Configuration): {}",
-            hex(before),
+            "state before (saved form): {}\nconfiguration (saved form): {}",
+            hex(&before.to_bytes(&self.configuration)),
             hex(&config)
         )
     }
 
-    fn same_state(&self, before: &[u8]) -> Result<(), String> {
+    fn same_state(&self, before: &State) -> Result<(), String> {
         let armed = if self.armed > 1 {
             self.armed
         } else {
             u8::from(self.run.armed)
         };
-        let library = self.state.to_bytes();
-        let reading = mirror::state_bytes(&self.run, armed);
+        let library = self.state.to_bytes(&self.configuration);
+        let reading = mirror::state_bytes(&self.run, armed, self.check);
         if library == reading {
             return Ok(());
         }
@@ -65,7 +84,7 @@ impl Both {
         event: &Event,
         room: usize,
     ) -> Result<(), String> {
-        let before = self.state.to_bytes();
+        let before = self.state.clone();
         let told =
             |both: &Both| format!("event: {event:02x?}, room {room}\n{}", both.told(&before));
 
@@ -98,7 +117,7 @@ impl Both {
         };
         same("step", library, reading, || told(self))?;
         if library.0 == 20 || library.0 == 21 {
-            let stayed = self.state.to_bytes() == before && ours == noise;
+            let stayed = self.state == before && ours == noise;
             same("nothing changed", stayed, true, || told(self))?;
         }
         if ours != theirs {
@@ -116,7 +135,7 @@ impl Both {
         recording: &[u8],
         room: usize,
     ) -> Result<Expected, String> {
-        let before = self.state.to_bytes();
+        let before = self.state.clone();
         let expected = if self.armed > 1 {
             Expected {
                 stop: 20,

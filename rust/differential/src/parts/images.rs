@@ -3,7 +3,7 @@
 use super::same;
 use crate::dice::Dice;
 use crate::make::image;
-use crate::mirror::{configuration_bytes, hex, same_config, same_run, same_state};
+use crate::mirror::{check_of, configuration_bytes, hex, same_config, same_run, state_bytes};
 use crate::raw;
 use crate::tally::Tally;
 use tamezohishu::Configuration;
@@ -37,7 +37,9 @@ pub fn case(dice: &mut Dice, tally: &mut Tally) -> Result<(), String> {
             let bytes = configuration_bytes(&reading.config);
             let alike = configuration.to_bytes() == bytes;
             same("configuration, by the safe crate, alike", alike, true, told)?;
-            let alike = same_state(&state, &reading.run);
+            let run = &reading.run;
+            let bytes = state_bytes(run, u8::from(run.armed), check_of(&bytes));
+            let alike = state.to_bytes(&configuration) == bytes;
             same("state, by the safe crate, alike", alike, true, told)
         }
         Err(error) => same(

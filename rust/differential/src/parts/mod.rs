@@ -1,10 +1,11 @@
-//! The five parts. A case makes its input from its dice, gives it to both sides and compares; a difference is told with the
+//! The six parts. A case makes its input from its dice, gives it to both sides and compares; a difference is told with the
 //! bytes that show it.
 
 mod both;
 mod builds;
 mod images;
 mod packets;
+mod saved;
 mod sessions;
 mod states;
 
@@ -22,7 +23,7 @@ pub struct Part {
 }
 
 /// The parts, in their order. The place of a part goes into its dice: put new ones at the end.
-pub const PARTS: [Part; 5] = [
+pub const PARTS: [Part; 6] = [
     Part {
         name: "packets",
         cases: 2_000_000,
@@ -47,6 +48,11 @@ pub const PARTS: [Part; 5] = [
         name: "builds",
         cases: 200_000,
         case: builds::case,
+    },
+    Part {
+        name: "saved",
+        cases: 2_000,
+        case: saved::case,
     },
 ];
 

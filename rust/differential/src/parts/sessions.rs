@@ -33,7 +33,7 @@ pub fn case(dice: &mut Dice, tally: &mut Tally) -> Result<(), String> {
         good_run(dice, &config)
     };
     let armed = u8::from(first.armed);
-    let mut both = Both::new(config.clone(), first.clone(), armed);
+    let mut both = Both::new(config.clone(), first.clone(), armed)?;
     for (k, event) in events.iter().enumerate() {
         let any = dice.below(617);
         let room = dice.one(&[ROOM, ROOM, ROOM, ROOM, ROOM, ROOM, 300, any, ROOM - 1, 0]);
@@ -146,7 +146,7 @@ fn pieces(
     let mut run = first.clone();
     let whole = oracle::resume(config, &mut run, recording, most);
 
-    let mut both = Both::new(config.clone(), first.clone(), u8::from(first.armed));
+    let mut both = Both::new(config.clone(), first.clone(), u8::from(first.armed))?;
     let (mut at, mut count) = (0, 0);
     let mut written = Vec::new();
     while at < recording.len() {
@@ -210,7 +210,7 @@ fn bad_end(
     if dice.percent(50) {
         Event::Tick.record(&mut recording);
     }
-    let mut both = Both::new(config.clone(), first.clone(), u8::from(first.armed));
+    let mut both = Both::new(config.clone(), first.clone(), u8::from(first.armed))?;
     let room = dice.one(&[2000, 2000, 300, 600, REPLY_ROOM - 1]);
     both.resume(dice, tally, &recording, room).map(|_| ())
 }

@@ -29,16 +29,16 @@ pub fn case(dice: &mut Dice, tally: &mut Tally) -> Result<(), String> {
         Event::Fault(good.faultids[0]),
         any,
     ];
+    let start = Both::new(config, run, armed)?;
     let mut recording = Vec::new();
     for event in &events {
         let room = dice.one(&[ROOM, ROOM, 300, 0]);
-        let mut both = Both::new(config.clone(), run.clone(), armed);
-        both.step(dice, tally, event, room)?;
+        start.clone().step(dice, tally, event, room)?;
         event.record(&mut recording);
     }
     let room = dice.one(&[0, REPLY_ROOM - 1, REPLY_ROOM, 2000]);
     let length = dice.one(&[0, recording.len(), recording.len()]);
-    let mut both = Both::new(config, run, armed);
+    let mut both = start;
     both.resume(dice, tally, &recording[..length], room)?;
     Ok(())
 }
