@@ -33,6 +33,37 @@ else
     exit 1
 fi
 
+# ended NAME STATUS WORDS: how the last run of the example ended, and what it said on standard error
+ended() {
+    [ "$status" != "$2" ] || [ "$(cat "$room/told")" != "$3" ] || return 0
+    cat "$room/told" >&2
+    echo "c boundary: examples/c/session.c: $1: exit status $status, not as expected" >&2
+    exit 1
+}
+
+# The example where something goes wrong: an image that is refused (no route has the response of its fault row), a full disk, a
+# reader that goes after a line, and one that has gone before.
+sed 's/7, 0, 10, 0, 1, 1, 1, 0xAA/7, 0, 11, 0, 1, 1, 1, 0xAA/' examples/c/session.c >"$room/refused.c"
+compile refused "$room/refused.c"
+status=0
+x86_run "$room/refused" >"$room/out" 2>"$room/told" || status=$?
+ended "a refused image" 1 "session: image refused with 7: record at byte 30"
+[ ! -s "$room/out" ] || { echo "c boundary: examples/c/session.c goes on with a refused image" >&2; exit 1; }
+status=0
+x86_run "$room/session" >/dev/full 2>"$room/told" || status=$?
+ended "a full disk" 1 "session: standard output: No space left on device"
+x86_run "$room/session" 2>"$room/told" | head -1 >"$room/out"
+status=${PIPESTATUS[0]}
+ended "a reader that goes" 0 ""
+[ "$(cat "$room/out")" = "0 0" ] || { echo "c boundary: examples/c/session.c prints another first line" >&2; exit 1; }
+mkfifo "$room/pipe"
+exec 3<>"$room/pipe" 4>"$room/pipe" 3>&-
+status=0
+x86_run "$room/session" >&4 2>"$room/told" || status=$?
+exec 4>&-
+ended "a closed pipe" 0 ""
+echo "c boundary: examples/c/session.c with a refused image, a full disk, a closed pipe: ok"
+
 # The example with a header of another number, newer and older: it says which, and calls nothing else.
 number=$(sed -n 's/^#define TZ_ABI //p' include/tamezohishu.h)
 for other in "$((number + 1)) header" "$((number - 1)) archive"; do

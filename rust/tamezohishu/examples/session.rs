@@ -1,9 +1,11 @@
-//! Configuration C of document 01 and its session, by the proved library. It prints the lines of the paper:
-//! `bin/cargo run -p tamezohishu --example session`
+//! Configuration C of document 01 and its session, by the proved library. It prints what was loaded, and then the answers of the
+//! paper: `bin/cargo run -p tamezohishu --example session`
 
 use std::error::Error;
+use std::fmt::Display;
+use std::io::{stderr, stdout, ErrorKind, Write};
 use std::process::ExitCode;
-use tamezohishu::{check_archive, Configuration, ROOM};
+use tamezohishu::{check_archive, Configuration, LoadError, ROOM};
 use Event::{Fault, Packet, Tick};
 
 enum Event {
@@ -28,10 +30,32 @@ fn main() -> ExitCode {
     match run() {
         Ok(()) => ExitCode::SUCCESS,
         Err(told) => {
-            eprintln!("session: {told}");
+            // Where standard error can't be written to, the exit status alone tells.
+            let _ = writeln!(stderr(), "session: {told}");
             ExitCode::FAILURE
         }
     }
+}
+
+/// Prints a line. A reader that has gone, as `head` does once it has enough, is no failure.
+fn print(line: impl Display) -> Result<(), String> {
+    match writeln!(stdout(), "{line}") {
+        Err(told) if told.kind() != ErrorKind::BrokenPipe => {
+            Err(format!("standard output: {told}"))
+        }
+        _ => Ok(()),
+    }
+}
+
+fn refused(told: LoadError) -> String {
+    format!("image refused with {}: {told}", told.refusal.number())
+}
+
+fn loaded(configuration: &Configuration) -> String {
+    let routes = configuration.routes().count();
+    let protected = configuration.protected_ids().len();
+    let rows = configuration.fault_rows().count();
+    format!("loaded: routes {routes}, protected ids {protected}, fault rows {rows}")
 }
 
 fn run() -> Result<(), Box<dyn Error>> {
@@ -50,8 +74,8 @@ fn run() -> Result<(), Box<dyn Error>> {
         Fault(7),
         Fault(8),
     ];
-    let (configuration, mut state) = Configuration::load(&C)?;
-    println!("0 0");
+    let (configuration, mut state) = Configuration::load(&C).map_err(refused)?;
+    print(loaded(&configuration))?;
     let mut out = [0; ROOM];
     for event in session {
         let answer = match event {
@@ -59,7 +83,7 @@ fn run() -> Result<(), Box<dyn Error>> {
             Tick => state.tick(&configuration),
             Fault(fault) => state.fault(&configuration, fault, &mut out),
         };
-        println!("{answer}");
+        print(answer)?;
     }
     Ok(())
 }
