@@ -1,5 +1,6 @@
-# The C boundary: the header, the archive and three C programs, compiled and run; one of them measures the stack. On a processor
-# that is not x86-64 they are compiled by the cross compiler and run under the toolchain's emulator.
+# The C boundary: the header, the archive and four C programs, compiled and run; one of them measures the stack, one prints what
+# docs/FORMATS.md shows of a replay. On a processor that is not x86-64 they are compiled by the cross compiler and run under the
+# toolchain's emulator.
 set -eu
 cd "$(dirname "$0")/.."
 . bin/x86
@@ -11,6 +12,7 @@ compile() { $X86_CC -std=c11 -Wall -Wextra -Wpedantic -Werror -O2 -Iinclude -o "
 compile boundary tests/c/boundary.c
 compile session examples/c/session.c
 compile stack tests/c/stack.c
+compile replies tests/c/replies.c
 x86_run "$room/boundary"
 x86_run "$room/stack"
 
@@ -63,6 +65,28 @@ x86_run "$room/session" >&4 2>"$room/told" || status=$?
 exec 4>&-
 ended "a closed pipe" 0 ""
 echo "c boundary: examples/c/session.c with a refused image, a full disk, a closed pipe: ok"
+
+# and so the README shows it
+awk '/^and it prints$/ { shown = 1 } shown && /^```/ { fence++; next } shown && fence == 1' README.md >"$room/shown"
+if x86_run "$room/session" | cmp -s - "$room/shown"; then
+    echo "c boundary: examples/c/session.c as README.md shows it: ok"
+else
+    echo "c boundary: README.md shows something else than examples/c/session.c prints" >&2
+    exit 1
+fi
+
+# The answers of a replay in bytes are those that docs/FORMATS.md shows.
+bin/hex examples/session/events.hex >"$room/events.rec" 2>/dev/null
+x86_run "$room/replies" crates/step/data/path.cfg "$room/events.rec" >"$room/replied"
+awk '/^The session of `events.rec` under C, an event a line/ { shown = 1 } shown && /^```/ { fence++; next } shown && fence == 1' \
+    docs/FORMATS.md >"$room/shown"
+if cmp -s "$room/replied" "$room/shown"; then
+    echo "c boundary: the answers of a replay as docs/FORMATS.md shows them: ok"
+else
+    diff "$room/shown" "$room/replied" >&2 || true
+    echo "c boundary: docs/FORMATS.md shows other answers of a replay" >&2
+    exit 1
+fi
 
 # The example with a header of another number, newer and older: it says which, and calls nothing else.
 number=$(sed -n 's/^#define TZ_ABI //p' include/tamezohishu.h)

@@ -1,5 +1,5 @@
 # The pictures are true: bin/pictures draws them anew from the sources, and each is, byte for byte, the one in docs/pictures.
-# It fails where a picture is stale, missing or no longer drawn, and where the README does not show it.
+# It fails where a picture is stale, missing or no longer drawn, and where neither README nor docs/FORMATS.md shows it.
 set -eu
 cd "$(dirname "$0")/.."
 room=$(mktemp -d)
@@ -13,7 +13,8 @@ for picture in "$room"/*.svg; do
     name=$(basename "$picture")
     drawn=$((drawn + 1))
     cmp -s "$picture" "docs/pictures/$name" || bad "docs/pictures/$name is stale: run bin/pictures"
-    grep -qF "(docs/pictures/$name)" README.md || bad "README.md has no link to docs/pictures/$name"
+    grep -qF "(docs/pictures/$name)" README.md || grep -qF "(pictures/$name)" docs/FORMATS.md ||
+        bad "neither README.md nor docs/FORMATS.md has a link to docs/pictures/$name"
 done
 for picture in docs/pictures/*; do
     [ -e "$room/$(basename "$picture")" ] || bad "$picture is not drawn by bin/pictures: remove it"
