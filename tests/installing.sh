@@ -76,24 +76,25 @@ ended() {
     if [ $failed = "$before" ]; then echo "installing: $name: ok"; else cat "$room/said" >&2; fi
 }
 
-all='apt-get install -y --no-install-recommends gcc-x86-64-linux-gnu libc6-dev-amd64-cross rustc-web libstd-rust-web-dev:amd64 librust-clap-dev librust-csv-dev'
+compilers='apt-get install -y --no-install-recommends gcc-x86-64-linux-gnu libc6-dev-amd64-cross rustc-web libstd-rust-web-dev:amd64'
 crates='apt-get install -y --no-install-recommends librust-clap-dev librust-csv-dev'
 both="dpkg --add-architecture amd64
 apt-get update
-$all
+$compilers
+$crates
 "
 on aarch64 0 '' none
-ended "root, no terminal" 0 "$both" "As root, this would be run:" "    dpkg --add-architecture amd64" "    apt-get update" "    $all" ready
+ended "root, no terminal" 0 "$both" "As root, this would be run:" "    dpkg --add-architecture amd64" "    apt-get update" "    $compilers" "    $crates" ready
 on x86_64 0 '' none
 ended "root, x86-64: the crates alone" 0 "apt-get update
 $crates
 " "    $crates" "ready: crates of debian"
 on aarch64 0 no none
-ended "root, answered no in advance" 1 '' "    $all" "nothing was installed"
+ended "root, answered no in advance" 1 '' "    $compilers" "    $crates" "nothing was installed"
 on x86_64 0 no none
 ended "x86-64, answered no: the registry is asked" 0 '' "    $crates" "cargo asks its registry" "ready: crates of registry"
 on aarch64 1000 '' none
-ended "not root" 1 '' "They are installed by root, with" "    dpkg --add-architecture amd64" "    $all"
+ended "not root" 1 '' "They are installed by root, with" "    dpkg --add-architecture amd64" "    $compilers" "    $crates"
 on aarch64 1000 yes none
 ended "not root, and yes in advance" 1 '' "They are installed by root, with"
 on aarch64 0 yes terminal
