@@ -39,6 +39,12 @@ while read -r number words; do
     done
 done <"$room/words"
 
+# and a refusal of loading has the same words on both pages
+for number in 1 2 3 4 5 6 7; do
+    words=$(sed -n '/^| load | |$/,/^$/p' README.md | sed -n "s/^| $number | \(.*\) |\$/\1/p")
+    if [ -z "$words" ] || ! grep -qF "| $number | $words |" docs/FORMATS.md; then bad "docs/FORMATS.md has other words for load $number than: $words"; fi
+done
+
 # files_in TEXT: the files under crates/ that a text names; one without its folder stands in the folder before it
 files_in() {
     printf '%s\n' "$1" | grep -oE '`[A-Za-z_/]+\.(antt|rt)`' | tr -d '`' | grep -v '^crates/' |

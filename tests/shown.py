@@ -11,7 +11,7 @@ Two things are not compared: what is said while something is proved or compiled,
 how many seconds something took (`13 s` is any number of seconds).
 
 It fails, too, where a command stands in a fenced block of another sort, where a sentence names a command of the repository that is
-not there, and where code that is shown is not in its file.
+not there, where a link leads to no file or heading, and where code that is shown is not in its file.
 """
 import difflib
 import os
@@ -131,6 +131,22 @@ def named(page, text):
             bad(page, f"`{words}`: there is no {program}")
 
 
+def linked(page, text):
+    """Each link leads to a file, and where it names a heading, to that heading of a page."""
+    for goal in re.findall(r"\]\(([^)\s]+)\)", text):
+        name, _, heading = goal.partition("#")
+        if re.match(r"\w+:", name):
+            continue
+        path = os.path.join(ROOT, os.path.dirname(page), name) if name else os.path.join(ROOT, page)
+        if not os.path.exists(path):
+            bad(page, f"a link to {name}, which is not there")
+        elif heading:
+            with open(path, encoding="utf-8") as file:
+                headings = re.findall(r"^#+ (.*)", blocks(page, file.read())[1], re.M)
+            if heading not in [re.sub(r"[^\w -]", "", one.lower()).strip().replace(" ", "-") for one in headings]:
+                bad(page, f"a link to the heading {heading}, which is not there")
+
+
 def bare(lines):
     return [line.strip() for line in lines if line.strip()]
 
@@ -140,6 +156,7 @@ def main():
         with open(os.path.join(ROOT, page), encoding="utf-8") as file:
             found, text = blocks(page, file.read())
         named(page, text)
+        linked(page, text)
         ran = exempt = 0
         with tempfile.TemporaryDirectory() as folder:
             for name in os.listdir(ROOT):
