@@ -111,7 +111,9 @@ def fits(shown, printed):
 
 def run(command, folder):
     """What a command prints, with its exit status where that is not 0."""
-    ended = subprocess.run(["bash", "-c", command], cwd=folder, stdin=subprocess.DEVNULL, stdout=subprocess.PIPE,
+    # a make within a make would say where it stands
+    own = {name: value for name, value in os.environ.items() if not name.startswith(("MAKE", "MFLAGS"))}
+    ended = subprocess.run(["bash", "-c", command], cwd=folder, env=own, stdin=subprocess.DEVNULL, stdout=subprocess.PIPE,
                            stderr=subprocess.STDOUT, check=False)
     printed = ended.stdout.decode("utf-8", "replace").split("\n")
     if printed[-1] == "":
