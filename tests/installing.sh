@@ -4,6 +4,7 @@ set -eu
 cd "$(dirname "$0")/.."
 room=$(mktemp -d)
 trap 'rm -rf "$room"' EXIT
+unset TZ_INSTALL
 failed=0
 bad() { echo "installing: $1" >&2; failed=1; }
 
