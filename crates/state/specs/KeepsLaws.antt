@@ -10,10 +10,11 @@ use lib.Dec.{leb, eqb}
 use lib.ListN.{length, getD, take, drop, length-take}
 use borrow.Author.Tests.{le-leb, eq-eqb, ne-eqb, leb-true, eqb-true, eqb-false, not-true}
 use Rattle.state.specs.declared.types.Config.{Config}
+use Rattle.state.specs.declared.types.Counts.{Counts}
 use Rattle.state.specs.declared.types.Run.{Run}
 pub use Rattle.state.specs.Settings.{both}
 use Rattle.state.specs.Settings.{settingsOk, settings-kept, settings-keeps}
-use Rattle.state.specs.Tables.{Route, FaultRow, Tables, routeId, faultId, routed, listed, routeAt, rowAt, tablesOf}
+use Rattle.state.specs.Tables.{Route, FaultRow, Tables, routeId, faultId, routed, listed, routeAt, rowAt, tablesOf, runCounted}
 use Rattle.state.specs.Rules.{own, member, routeOk, protectedOk, rowOk}
 use Rattle.state.specs.Keeps.{Own, RouteOk, ProtectedOk, RowOk, Rising, Each, Rules, AllZero, ArgsZero, Unused, ArmOk, StateOk, StatesOk, RunOk, Keeps}
 use Rattle.state.specs.Test.{risingAll, allZero, argsZero, routePasses, protectedPasses, rowPasses, routesKept, protectedKept, rowsKept, rulesKept, counted, unusedZero, configKept, armOk, stateOk, statesOk, runKept, keepsRules}
@@ -322,3 +323,8 @@ keeps c r e =
     let a = both (configKept c) _ e in
     let g = config-keeps c (a .0) in
     record { within = g .0; rules = g .1; unused = g .2; run-ok = run-keeps (a .1) }
+
+-- counters have no rule: any seven numbers keep them
+pub counts-free : (c : Config) (k : Counts) (r : Run) → keepsRules c (runCounted k r) ≡ keepsRules c r
+unfolding keepsRules runKept
+counts-free c k r = refl
