@@ -1,38 +1,7 @@
 # The program for people on the ground, as its users run it: what it prints, what it says, what it writes and how it ends.
 set -eu
-root=$(cd "$(dirname "$0")/.." && pwd -P)
-room=$(mktemp -d)
-trap 'rm -rf "$room"' EXIT
-# It runs where its caller stands, so that the names of files are relative to here.
-cd "$room"
-ground=$root/bin/ground
-failed=0
-
-bad() {
-    echo "ground: $1" >&2
-    failed=1
-}
-
-# run ARGUMENT..: runs the program, with standard input as it is; leaves its exit status, `out` and `err`
-run() {
-    status=0
-    "$ground" "$@" >out 2>err || status=$?
-}
-
-# same NAME FILE EXPECTED: the file has these lines and no others
-same() {
-    printf '%s' "$3" >expected
-    cmp -s "$2" expected || { diff expected "$2" >&2 || true; bad "$1: $2 is not as expected"; }
-}
-
-# ended NAME STATUS OUT ERR: how the last run ended, what it printed and what it said
-ended() {
-    before=$failed
-    [ "$status" = "$2" ] || bad "$1: exit status $status and not $2"
-    same "$1" out "$3"
-    same "$1" err "$4"
-    [ "$failed" != "$before" ] || echo "ground: $1: ok"
-}
+# shellcheck source=tests/ground_runs
+. "$(dirname "$0")/ground_runs"
 
 # sheet LINE..: a sheet with these lines on standard output
 sheet() { printf '%s\n' "$@"; }
@@ -47,9 +16,6 @@ a_number='expected a number from 0 to 65,535, in decimal or in hex after 0x'
 hex='expected two hex digits a byte, with or without spaces between bytes'
 columns='expected apid, count, id, args and, where there are pads, pads, separated by commas or by semicolons'
 header='apid,count,id,args,pads'
-
-# Whatever has to be built is built here, so that what is said from now on is the program's.
-"$ground" --help >/dev/null
 
 # ---- one packet ----
 run build --apid 1 --count 0 --id 20
@@ -88,18 +54,6 @@ ground build: --args: \"5\" has an odd number of digits: $hex
 ground build: --pads: \"1.0\" is no number: $a_number
 "
 
-# What clap says has other words in each of its versions.
-# misused NAME ARGUMENT..: the exit status is 2, nothing is printed and something is said
-misused() {
-    name=$1
-    shift
-    run "$@"
-    if [ "$status" = 2 ] && [ ! -s out ] && [ -s err ]; then
-        echo "ground: $name: ok"
-    else
-        bad "$name: exit status $status"
-    fi
-}
 misused "no subcommand"
 misused "an unknown subcommand" built
 misused "no options" build

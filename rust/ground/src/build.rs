@@ -2,18 +2,15 @@
 
 use crate::cell::{append_spaced, bytes, good, number};
 use crate::ending::{print, say, Ending};
+use crate::input;
 use crate::sheet::{Row, Sheet};
 use crate::whole_file::WholeFile;
 use clap::{value_parser, Arg, ArgMatches, Command};
-use std::fs::File;
-use std::io::{self, Read};
+use std::io;
 use std::path::{Path, PathBuf};
 use tamezohishu::{build, BuildRefusal, Fields, Recording};
 
 const NAME: &str = "ground build";
-
-/// The most bytes of a sheet. It is held in memory as a whole, so that no packet comes from a sheet with a bad cell.
-const LARGEST_SHEET: u64 = 256 << 20;
 
 const USAGE: &str = "\
 ground build --apid NUMBER --count NUMBER --id NUMBER [--args HEX] [--pads NUMBER] [--records FILE]
@@ -157,14 +154,14 @@ fn from_options(options: &ArgMatches) -> Result<Wanted, Vec<String>> {
 
 /// The packets of a sheet.
 fn from_sheet(csv: &Path, records: Option<&PathBuf>) -> Result<Wanted, Vec<String>> {
-    let real = |path: &Path| path.canonicalize().ok();
-    if records.is_some_and(|path| real(path).is_some() && real(path) == real(csv)) {
+    if records.is_some_and(|path| input::same(path, csv)) {
         let file = csv.display();
         return Err(vec![format!(
             "{file}: the records would take the sheet's place"
         )]);
     }
-    let sheet = Sheet::read(&read(csv)?)?;
+    // It is held in memory as a whole, so that no packet comes from a sheet with a bad cell.
+    let sheet = Sheet::read(&input::read(csv, input::LARGEST)?)?;
     let mut notes = Vec::new();
     if sheet.semicolons {
         notes.push("semicolons separate the cells, as in the header row".to_string());
@@ -177,26 +174,6 @@ fn from_sheet(csv: &Path, records: Option<&PathBuf>) -> Result<Wanted, Vec<Strin
         rows: sheet.rows,
         sheet: true,
     })
-}
-
-/// The bytes of a sheet, in a file or on standard input.
-fn read(csv: &Path) -> Result<Vec<u8>, Vec<String>> {
-    let mut data = Vec::new();
-    let (name, read) = if csv == Path::new("-") {
-        let mut input = io::stdin().lock().take(LARGEST_SHEET + 1);
-        ("standard input".to_string(), input.read_to_end(&mut data))
-    } else {
-        let read =
-            File::open(csv).and_then(|file| file.take(LARGEST_SHEET + 1).read_to_end(&mut data));
-        (csv.display().to_string(), read)
-    };
-    match read {
-        Err(told) => Err(vec![format!("{name}: {told}")]),
-        Ok(length) if length as u64 > LARGEST_SHEET => {
-            Err(vec![format!("{name}: more than 256 MiB")])
-        }
-        Ok(_) => Ok(data),
-    }
 }
 
 /// Has the library build every packet.

@@ -1,9 +1,10 @@
-//! Numbers and bytes as people write them, in an option or in a cell of a spreadsheet, and bytes as they are shown. Nothing is
-//! guessed: what is not written as it should be is told, with what was expected.
+//! Numbers and bytes as people write them, in an option, in a line or in a cell of a spreadsheet, and bytes as they are shown.
+//! Nothing is guessed: what is not written as it should be is told, with what was expected.
 
-use std::fmt::Display;
+use std::fmt::{self, Display};
 
 const A_NUMBER: &str = "expected a number from 0 to 65,535, in decimal or in hex after 0x";
+const A_BYTE: &str = "expected a number from 0 to 255, in decimal or in hex after 0x";
 const BYTES: &str = "expected two hex digits a byte, with or without spaces between bytes";
 
 /// The most characters of a text that a message shows.
@@ -11,8 +12,17 @@ const SHOWN: usize = 40;
 
 /// A number of two bytes, in decimal or in hex after 0x.
 pub fn number(text: &str) -> Result<u16, String> {
+    within(text, A_NUMBER)
+}
+
+/// A number of one byte, in decimal or in hex after 0x.
+pub fn byte(text: &str) -> Result<u8, String> {
+    within(text, A_BYTE)
+}
+
+fn within<T: TryFrom<u16>>(text: &str, expected: &str) -> Result<T, String> {
     if text.is_empty() {
-        return Err(format!("empty: {A_NUMBER}"));
+        return Err(format!("empty: {expected}"));
     }
     let after_0x = text.strip_prefix("0x").or(text.strip_prefix("0X"));
     let (digits, base) = match after_0x {
@@ -20,36 +30,86 @@ pub fn number(text: &str) -> Result<u16, String> {
         None => (text, 10),
     };
     if digits.is_empty() || !digits.chars().all(|c| c.is_digit(base)) {
-        return Err(format!("{} is no number: {A_NUMBER}", shown(text)));
+        return Err(format!("{} is no number: {expected}", shown(text)));
     }
     // These are digits and nothing else, so that only their size can be amiss.
-    u16::from_str_radix(digits, base)
-        .map_err(|_| format!("{} is too large: {A_NUMBER}", shown(text)))
+    let number = u16::from_str_radix(digits, base).ok();
+    number
+        .and_then(|number| T::try_from(number).ok())
+        .ok_or_else(|| format!("{} is too large: {expected}", shown(text)))
 }
 
 /// Bytes in hex. Spaces may stand between bytes and never between the two digits of one: `1 8` could be meant for 18 as well
 /// as for 01 08.
 pub fn bytes(text: &str) -> Result<Vec<u8>, String> {
-    if let Some(other) = text.chars().find(|&c| c != ' ' && !c.is_ascii_hexdigit()) {
-        return Err(format!("{} has {other:?} in it: {BYTES}", shown(text)));
-    }
     let mut bytes = Vec::with_capacity(text.len() / 2);
-    for group in text.split(' ') {
-        let pairs = group.as_bytes().chunks_exact(2);
-        if !pairs.remainder().is_empty() {
-            let place = if group == text.trim() {
+    match append_bytes(text, &mut bytes) {
+        Ok(()) => Ok(bytes),
+        Err(NoBytes::Other { character, .. }) => {
+            Err(format!("{} has {character:?} in it: {BYTES}", shown(text)))
+        }
+        Err(NoBytes::Odd { digits, .. }) => {
+            let place = if digits == text.trim() {
                 String::new()
             } else {
-                format!(" in {}", shown(group))
+                format!(" in {}", shown(digits))
             };
             let text = shown(text);
-            return Err(format!(
+            Err(format!(
                 "{text} has an odd number of digits{place}: {BYTES}"
-            ));
+            ))
+        }
+    }
+}
+
+/// Why a text is no bytes, and at which of its characters, counted from 1.
+#[derive(PartialEq, Eq, Debug)]
+pub enum NoBytes<'a> {
+    /// A character that is neither a hex digit nor a space.
+    Other { column: usize, character: char },
+    /// Digits that stand together and are no whole bytes.
+    Odd { column: usize, digits: &'a str },
+}
+
+impl NoBytes<'_> {
+    pub fn column(&self) -> usize {
+        match *self {
+            NoBytes::Other { column, .. } | NoBytes::Odd { column, .. } => column,
+        }
+    }
+}
+
+impl Display for NoBytes<'_> {
+    fn fmt(&self, f: &mut fmt::Formatter<'_>) -> fmt::Result {
+        match self {
+            NoBytes::Other { character, .. } => {
+                write!(f, "{character:?} is no hex digit: {BYTES}")
+            }
+            NoBytes::Odd { digits, .. } => {
+                let digits = shown(digits);
+                write!(f, "{digits} has an odd number of digits: {BYTES}")
+            }
+        }
+    }
+}
+
+/// Appends the bytes that a text says. Where it is no bytes, what was appended is of no use.
+pub fn append_bytes<'a>(text: &'a str, bytes: &mut Vec<u8>) -> Result<(), NoBytes<'a>> {
+    let other = |c: &char| *c != ' ' && !c.is_ascii_hexdigit();
+    if let Some((column, character)) = (1..).zip(text.chars()).find(|(_, c)| other(c)) {
+        return Err(NoBytes::Other { column, character });
+    }
+    // Each character is one byte of the text from here on.
+    let mut column = 1;
+    for digits in text.split(' ') {
+        let pairs = digits.as_bytes().chunks_exact(2);
+        if !pairs.remainder().is_empty() {
+            return Err(NoBytes::Odd { column, digits });
         }
         bytes.extend(pairs.map(|pair| 16 * digit(pair[0]) + digit(pair[1])));
+        column += digits.len() + 1;
     }
-    Ok(bytes)
+    Ok(())
 }
 
 /// What a hex digit stands for.
@@ -81,6 +141,15 @@ pub fn shown(text: &str) -> String {
     let start: String = text.chars().take(SHOWN).collect();
     let cut = if start.len() < text.len() { ".." } else { "" };
     format!("{start:?}{cut}")
+}
+
+/// A number of things, as `no pads`, `1 pad`, `2 pads`.
+pub fn counted(number: usize, what: &str) -> String {
+    match number {
+        0 => format!("no {what}s"),
+        1 => format!("1 {what}"),
+        _ => format!("{number} {what}s"),
+    }
 }
 
 #[cfg(test)]
@@ -118,6 +187,18 @@ mod tests {
     }
 
     #[test]
+    fn a_byte_is_a_number_up_to_255() {
+        assert_eq!(byte("255"), Ok(255));
+        assert_eq!(byte("0x1F"), Ok(31));
+        for text in ["256", "0x100", "65536"] {
+            let told = format!("{text:?} is too large: {A_BYTE}");
+            assert_eq!(byte(text), Err(told));
+        }
+        assert_eq!(byte("x"), Err(format!("\"x\" is no number: {A_BYTE}")));
+        assert_eq!(byte(""), Err(format!("empty: {A_BYTE}")));
+    }
+
+    #[test]
     fn every_byte_goes_both_ways() {
         let all: Vec<u8> = (0..=255).collect();
         let mut line = String::new();
@@ -143,6 +224,25 @@ mod tests {
         ] {
             assert_eq!(bytes(text), Err(format!("{told}: {BYTES}")));
         }
+    }
+
+    #[test]
+    fn what_is_no_hex_has_its_place() {
+        let told = |text| {
+            append_bytes(text, &mut Vec::new())
+                .map_err(|told| (told.column(), told.to_string()))
+                .expect_err("it is no hex")
+        };
+        let other = |column, c| (column, format!("{c:?} is no hex digit: {BYTES}"));
+        assert_eq!(told("G"), other(1, 'G'));
+        assert_eq!(told("1 é0"), other(3, 'é'));
+        assert_eq!(told("02\t03"), other(3, '\t'));
+        let odd = |column, digits| {
+            let told = format!("{digits:?} has an odd number of digits: {BYTES}");
+            (column, told)
+        };
+        assert_eq!(told("020"), odd(1, "020"));
+        assert_eq!(told("  02  3 4"), odd(7, "3"));
     }
 
     #[test]

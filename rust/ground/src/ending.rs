@@ -25,13 +25,17 @@ impl From<Ending> for ExitCode {
 }
 
 /// Writes to standard output. A reader that has gone, as `head` does once it has enough, wants no more, and that is no failure.
-pub fn print(text: &str) -> Result<(), Vec<String>> {
+pub fn print(bytes: impl AsRef<[u8]>) -> Result<(), Vec<String>> {
+    print_on(bytes).map(|_| ())
+}
+
+/// The same, and gives whether there is a reader still, for who would go on as long as there is.
+pub fn print_on(bytes: impl AsRef<[u8]>) -> Result<bool, Vec<String>> {
     let mut out = io::stdout().lock();
-    match out.write_all(text.as_bytes()).and_then(|()| out.flush()) {
-        Err(told) if told.kind() != ErrorKind::BrokenPipe => {
-            Err(vec![format!("standard output: {told}")])
-        }
-        _ => Ok(()),
+    match out.write_all(bytes.as_ref()).and_then(|()| out.flush()) {
+        Ok(()) => Ok(true),
+        Err(told) if told.kind() == ErrorKind::BrokenPipe => Ok(false),
+        Err(told) => Err(vec![format!("standard output: {told}")]),
     }
 }
 

@@ -57,11 +57,11 @@ numbers! {
     LoadRefusal {
         PastEnd = 1: "header or body passes the end of the image",
         BadKind = 2: "kind not 1 to 4",
-        BadLength = 3: "body length wrong for the kind, or more than 16 arguments",
-        BadOrder = 4: "first record not kind 1, a second kind 1, a kind that falls, or an id not above the one before",
+        BadLength = 3: "body length wrong for the kind, or n above 16",
+        BadOrder = 4: "first record not kind 1, a second kind 1, a kind that falls, an id not above the one before",
         Empty = 5: "empty image",
         TooMany = 6: "one row more than the limit",
-        BrokenRule = 7: "another rule of the image broken",
+        BrokenRule = 7: "any other rule of the image broken",
     }
 }
 
