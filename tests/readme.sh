@@ -29,21 +29,19 @@ $(awk '/^## / { shown = 0 } /^PAD from its fields/ { shown = 1 } shown && /^\| [
 ROWS
 [ "$rows" = 3 ] || bad "docs/FORMATS.md has $rows packets from their fields and not 3"
 
-# a refusal of the builder and a stop of a replay have the same words in the Rust crate, in the C header and on both pages
-sed -nE 's/^ *[A-Za-z]+ = ([46][0-9]): "(.*)",$/\1 \2/p' rust/tamezohishu/src/numbers.rs >"$room/words"
-[ "$(cut -d' ' -f1 "$room/words" | tr '\n' ' ')" = "40 41 42 43 44 60 61 62 63 " ] || bad "the Rust crate does not name 40 to 44 and 60 to 63"
+# every number has the same words in the Rust crate, in the C header and in the README; what is loaded, built and replayed in FORMATS too
+sed -nE '/ FaultState [{]/,$d; s/^ *[A-Za-z]+ = ([1-9][0-9]*): "(.*)",$/\1 \2/p' rust/tamezohishu/src/numbers.rs | sort -nu >"$room/words"
+numbers=$(cut -d' ' -f1 "$room/words" | tr '\n' ' ')
+wanted="$(seq -s ' ' 1 7) $(seq -s ' ' 10 15) $(seq -s ' ' 20 34) $(seq -s ' ' 40 44) $(seq -s ' ' 60 63) "
+[ "$numbers" = "$wanted" ] || bad "the Rust crate names $numbers"
+sed 's,^| 14 / 15 | tick / \(.*\) | none |$,| 14 | tick | none |\n| 15 | \1 | none |,' README.md >"$room/README.md"
 while read -r number words; do
-    grep -qE "= $number,? +/\* $words \*/" include/tamezohishu.h || bad "the C header has other words for $number than: $words"
-    for page in README.md docs/FORMATS.md; do
-        grep -qF "| $number | $words" "$page" || bad "$page has other words for $number than: $words"
-    done
+    grep -qE "= $number,? +/\* ${words//+/\\+} \*/" include/tamezohishu.h || bad "the C header has other words for $number than: $words"
+    grep -qF "| $number | $words |" "$room/README.md" || grep -qF "| $number | $words: " "$room/README.md" || bad "README.md has other words for $number than: $words"
+    case $number in
+    ? | [46]?) grep -qF "| $number | $words" docs/FORMATS.md || bad "docs/FORMATS.md has other words for $number than: $words" ;;
+    esac
 done <"$room/words"
-
-# and a refusal of loading has the same words on both pages
-for number in 1 2 3 4 5 6 7; do
-    words=$(sed -n '/^| load | |$/,/^$/p' README.md | sed -n "s/^| $number | \(.*\) |\$/\1/p")
-    if [ -z "$words" ] || ! grep -qF "| $number | $words |" docs/FORMATS.md; then bad "docs/FORMATS.md has other words for load $number than: $words"; fi
-done
 
 # files_in TEXT: the files under crates/ that a text names; one without its folder stands in the folder before it
 files_in() {

@@ -84,7 +84,7 @@ tamezohishu = { path = "$PWD/rust/tamezohishu" }
 CRATE
 status=0
 CARGO_TARGET_DIR="$room/target" bin/cargo run -q --manifest-path "$room/refused/Cargo.toml" >"$room/out" 2>"$room/told" || status=$?
-ended "a refused image" 1 "session: image refused with 7: record at byte 30: another rule of the image broken"
+ended "a refused image" 1 "session: image refused with 7: record at byte 30: any other rule of the image broken"
 if [ -s "$room/out" ]; then
     echo "rust: the session goes on with a refused image" >&2
     failed=1

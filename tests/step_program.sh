@@ -70,4 +70,41 @@ else
     echo "step program: 40,000 ticks: not as expected" >&2
     failed=1
 fi
+
+# ---- how it is called ----
+# called NAME STATUS OUT SAID ARGUMENT..: its exit status, what it prints and what it says
+called() {
+    name=$1 wanted=$2 printed=$3 said=$4
+    shift 4
+    status=0
+    bin/step "$@" >"$room/out" 2>"$room/err" || status=$?
+    if [ "$status" = "$wanted" ] && [ "$(cat "$room/out")" = "$printed" ] && [ "$(cat "$room/err")" = "$said" ]; then
+        echo "step program: $name: ok"
+    else
+        echo "step program: $name: exit status $status, not as expected: $(cat "$room/err")" >&2
+        failed=1
+    fi
+}
+called "an image that is refused is exit status 0" 0 "5 0
+bad" '' "$room/empty" </dev/null
+called "a configuration that can't be read is said" 0 "5 0
+bad" "bin/step: $room/none can't be read, and counts as an empty image" "$room/none" </dev/null
+called "a folder for a configuration is said" 0 "5 0
+bad" "bin/step: $room can't be read, and counts as an empty image" "$room" </dev/null
+bytes '\0000\0000\0023\0000' >"$room/bad"
+called "a bad record is exit status 0" 0 "0 0
+bad" '' "$c" <"$room/bad"
+called "a folder on standard input" 2 '' "bin/step: standard input is a folder, and no recording" "$c" <"$room"
+called "no standard input" 2 '' "bin/step: there is no standard input" "$c" <&-
+called "no configuration named" 2 '' "usage: bin/step CONFIG < RECORDS" </dev/null
+called "two configurations" 2 '' "usage: bin/step CONFIG < RECORDS" "$c" "$c" </dev/null
+for option in -h --help; do
+    if bin/step "$option" </dev/null >"$room/out" 2>"$room/err" && [ ! -s "$room/err" ] && grep -q '^usage: bin/step' "$room/out" &&
+        grep -q 'exit status is 0 also where it prints bad' "$room/out"; then
+        echo "step program: $option: ok"
+    else
+        echo "step program: $option: not as expected" >&2
+        failed=1
+    fi
+done
 exit $failed
