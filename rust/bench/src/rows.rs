@@ -305,6 +305,7 @@ impl Watch {
         let mailbox: *mut Mailbox = &mut *self.mailbox;
         // SAFETY: places of the mailbox, and so many loads as the plugin has written.
         unsafe {
+            scrub();
             addr_of_mut!((*mailbox).command).write_volatile(BEGIN);
             work();
             addr_of_mut!((*mailbox).command).write_volatile(END);
@@ -762,6 +763,14 @@ extern "C" {
 /// Where the program was put: addresses less this are those of `objdump -d`.
 fn program() -> u64 {
     addr_of!(__executable_start) as u64
+}
+
+/// Writes over what calls before have left below on the stack. A column that stands there still, with a variable of the measured call
+/// at its last row that happens to be zero too, would be taken for a copy of the table.
+#[inline(never)]
+fn scrub() {
+    let mut below = [0xA5u8; 128 << 10];
+    black_box(&mut below);
 }
 
 fn watched(work: impl FnOnce(&mut Watch) -> bool) -> ExitCode {
