@@ -111,7 +111,7 @@ pub extern "C" fn tz_lent_packet<'a>(
     if 1 < standing.armed {
         return types::step_refused(standing);
     }
-    types::step_out(steps::on_packet::lent_packet(
+    types::step_out(step_any_packet::lent_packet(
         numbers,
         routeids,
         dests,
@@ -151,7 +151,7 @@ pub extern "C" fn tz_lent_tick<'a>(
     if 1 < standing.armed {
         return types::step_refused(standing);
     }
-    types::step_out(steps::on_tick::lent_tick(
+    types::step_out(step_any_tick::lent_tick(
         numbers,
         routeids,
         dests,
@@ -191,7 +191,7 @@ pub extern "C" fn tz_lent_fault<'a>(
     if 1 < standing.armed {
         return types::step_refused(standing);
     }
-    types::step_out(steps::on_fault::lent_fault(
+    types::step_out(step_any_fault::lent_fault(
         numbers,
         routeids,
         dests,

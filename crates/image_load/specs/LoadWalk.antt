@@ -13,9 +13,9 @@ use Rattle.state.specs.Tables.{configOf, firstRun}
 use Rattle.image_rules.specs.Records.{Record, cut, recordAt, recordsFrom}
 use Rattle.image_load.specs.Image.{tablesOfRecords, lastKind, recordRefusal, refused, loadAfter, loadOf}
 use Rattle.image_rules.specs.RecordLaws.{Whole, bodyAt, whole-at, body-ends, one-from, none-from, last-snoc}
-use Rattle.image_load.specs.Stored.{Countable}
-use Rattle.image_load.specs.Held.{Held, none-held, countable}
-use Rattle.image_load.specs.Taking.{Ready, whole, Adds, Takes, good-whole}
+use Rattle.image_take.specs.Stored.{Countable}
+use Rattle.image_take.specs.Held.{Held, none-held, countable}
+use Rattle.image_take.specs.Taking.{Ready, whole, Adds, Takes, good-whole}
 
 -- the arrays hold the records before the cursor, and loading goes on from there
 pub record Walked (bs : List ℕ) (c : Config) (states : List ℕ) (last place : ℕ) : Type 0 where

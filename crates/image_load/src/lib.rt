@@ -1,4 +1,3 @@
 // The configuration image: loading it into a state, or the refusal and the place of its first bad record.
 pub mod load;
-pub mod take;
 pub mod types;

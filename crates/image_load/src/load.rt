@@ -5,7 +5,6 @@ ghost use mathlib.Core.List.{[]};
 ghost use Rattle.image_rules.specs.Written.{settingsOfRecords};
 ghost use Rattle.image_load.specs.Image.{refused, loadOf};
 ghost use Rattle.image_load.specs.LoadWalk.{noRows, Blank, Reads};
-use crate::take;
 use crate::types::Loaded;
 use image_rules::record;
 use state::types::Config;
@@ -119,7 +118,7 @@ fn read_records(
         let end = found.end;
         let kind = found.kind;
         let from = at + 4;
-        let refused = take::take_record(
+        let refused = image_take::take_record(
             last,
             kind,
             &image[from..end],
@@ -137,7 +136,7 @@ fn read_records(
         if refused != 0 {
             return stopped(refused, at, numbers);
         }
-        numbers = take::numbers_behind(numbers, kind, &image[from..end]);
+        numbers = image_take::numbers_behind(numbers, kind, &image[from..end]);
         last = kind;
         at = end;
     }

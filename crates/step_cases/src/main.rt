@@ -4,10 +4,7 @@ use image_load::types::Loaded;
 use state::types::Config;
 use state::types::Counts;
 use state::types::Run;
-use steps::on_fault;
-use steps::on_packet;
-use steps::on_tick;
-use steps::types::Stepped;
+use step_rules::types::Stepped;
 
 const C: [u8; 42] = [
     0x06,
@@ -136,29 +133,29 @@ fn line(name: &[u8], s: Stepped) {
 // Output room 260 serves, 259 and 0 give 21.
 fn rooms(l: Loaded) {
     let mut whole = [0u8; 260];
-    let s = on_packet::step_packet(l.config, l.run, &PAD, &mut whole);
+    let s = step_any_packet::step_packet(l.config, l.run, &PAD, &mut whole);
     line(b"room 260", s);
     let mut short = [0u8; 259];
-    let s = on_packet::step_packet(l.config, l.run, &PAD, &mut short);
+    let s = step_any_packet::step_packet(l.config, l.run, &PAD, &mut short);
     line(b"room 259", s);
-    let s = on_packet::step_packet(l.config, l.run, &[], &mut short[..0]);
+    let s = step_any_packet::step_packet(l.config, l.run, &[], &mut short[..0]);
     line(b"room 0", s);
 }
 
 fn fault_room(l: Loaded) {
     let mut short = [0u8; 259];
-    let s = on_fault::step_fault(l.config, l.run, 7, &mut short);
+    let s = step_any_fault::step_fault(l.config, l.run, 7, &mut short);
     line(b"fault, room 259", s);
 }
 
 // Each of the three steps on one state.
 fn all_three(config: Config, run: Run) {
     let mut room = [0u8; 260];
-    let s = on_packet::step_packet(config, run, &PAD, &mut room);
+    let s = step_any_packet::step_packet(config, run, &PAD, &mut room);
     line(b"  packet", s);
-    let s = on_tick::step_tick(config, run);
+    let s = step_any_tick::step_tick(config, run);
     line(b"  tick", s);
-    let s = on_fault::step_fault(config, run, 7, &mut room);
+    let s = step_any_fault::step_fault(config, run, 7, &mut room);
     line(b"  fault", s);
 }
 
@@ -217,7 +214,7 @@ fn command(config: Config, run: Run, id: u16, args: &[u8]) -> Stepped {
     let mut b = [0u8; 300];
     let mut room = [0u8; 260];
     let n = make(&mut b, id, args);
-    on_packet::step_packet(config, run, text::first(&b, n), &mut room)
+    step_any_packet::step_packet(config, run, text::first(&b, n), &mut room)
 }
 
 // Own commands one argument short and long, a reset, and an id that is neither own nor routed.
@@ -251,9 +248,9 @@ fn lasting(l: Loaded) {
     let mut room = [0u8; 260];
     let s = command(l.config, l.run, 100, &[0]);
     line(b"arm, timeout 0", s);
-    let s = on_tick::step_tick(l.config, s.run);
+    let s = step_any_tick::step_tick(l.config, s.run);
     line(b"then a tick", s);
-    let s = on_packet::step_packet(l.config, s.run, &[1, 2, 3], &mut room);
+    let s = step_any_packet::step_packet(l.config, s.run, &[1, 2, 3], &mut room);
     line(b"then a rejected packet", s);
     let s = command(l.config, s.run, 20, &[]);
     line(b"then the protected command", s);

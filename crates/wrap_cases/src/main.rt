@@ -4,9 +4,7 @@ use image_load::types::Loaded;
 use state::types::Config;
 use state::types::Counts;
 use state::types::Run;
-use steps::on_fault;
-use steps::on_packet;
-use steps::types::Stepped;
+use step_rules::types::Stepped;
 
 const C: [u8; 42] = [
     0x06,
@@ -98,9 +96,9 @@ fn show(name: &[u8], plain: u64, c: Counts) {
 fn one(config: Config, run: Run, packet: &[u8], fault: u16) -> Stepped {
     let mut room = [0u8; 260];
     if fault != 0 {
-        return on_fault::step_fault(config, run, fault, &mut room);
+        return step_any_fault::step_fault(config, run, fault, &mut room);
     }
-    on_packet::step_packet(config, run, packet, &mut room)
+    step_any_packet::step_packet(config, run, packet, &mut room)
 }
 
 // The same step again and again.
