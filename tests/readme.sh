@@ -1,5 +1,6 @@
 # What README and FORMATS say beside the commands that they show (those tests/shown.py runs): the packets in their tables, the words
-# of refusals, which files a reviewer has to read and how much that is, and how many public functions are internal.
+# of refusals, which files a reviewer has to read and how much that is, and how many public functions are internal. And that every
+# file and folder of the repository that they and the other pages name is there (of the evidence tests/evidence.sh says it).
 set -eu
 cd "$(dirname "$0")/.."
 room=$(mktemp -d)
@@ -42,6 +43,18 @@ while read -r number words; do
     ? | [46]?) grep -qF "| $number | $words" docs/FORMATS.md || bad "docs/FORMATS.md has other words for $number than: $words" ;;
     esac
 done <"$room/words"
+
+# every file and folder that a page names is there: from the root, or from a crate's name on
+for page in README.md docs/BENCHMARKS.md docs/DECISIONS.md docs/FORMATS.md docs/PROVING.md; do
+    for word in $(grep -oE '`[.A-Za-z0-9_-]+/[./A-Za-z0-9_-]*`' "$page" | tr -d '`' | sort -u); do
+        case $word in
+        .ci/* | bin/* | crates/* | docs/* | examples/* | include/* | rust/* | tests/*) path=$word ;;
+        */specs/* | */src/* | */proofs/* | */must-fail/*) path=crates/$word ;;
+        *) continue ;;
+        esac
+        [ -e "$path" ] || bad "$page names $word, which is not there"
+    done
+done
 
 # files_in TEXT: the files under crates/ that a text names; one without its folder stands in the folder before it
 files_in() {
@@ -88,5 +101,5 @@ files=$(files_in "$sentence" | grep 'antt$')
 said="$(printf '%s\n' "$files" | wc -l) files, $(cat $files | wc -l | sed -E 's/^([0-9]+)([0-9]{3})$/\1,\2/') lines of which $(cat $files | grep -cvE '^use |^ *$|^ *--') are definitions"
 case $sentence in *"$said"*) ;; *) bad "the files to believe are $said" ;; esac
 
-[ $failed = 0 ] && echo "readme: the packets, the words and the count of what to read: ok"
+[ $failed = 0 ] && echo "readme: the packets, the words, the files named and the count of what to read: ok"
 exit $failed
