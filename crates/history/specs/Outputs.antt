@@ -68,7 +68,7 @@ sent_over n source id args out = go (eqb n 10)
 module _ (t : Tables) (n : ℕ) (out : List ℕ) where
   pub packet_over : (p : List ℕ) → packet_output t n p out ≡ over (bytes_for t (packet p) n) out
   unfolding packet_output
-  packet_over p = sent_over n t.settings.ground (command_id p) (arguments_of p) out
+  packet_over p = sent_over n t.settings.ground_source (command_id p) (arguments_of p) out
 
   pub fault_over : (f : ℕ) → fault_output t n f out ≡ over (bytes_for t (fault f) n) out
   unfolding fault_output
@@ -112,7 +112,7 @@ command_fits n source id args l = (go (eqb n 10), λ h. simp (ne_eqb n 10 h))
 -- so does every reply of the running path, whatever its run
 pub step_fits : (t : Tables) → Each (RowOk (routed t)) t.rows → (s : Run) (e : Event) → Fits (reply_of t e (step t s e))
 step_fits t ok s (packet p) =
-    let f = command_fits (step t s (packet p)).answer.answer t.settings.ground (command_id p) (arguments_of p) (arguments_few p) in
+    let f = command_fits (step t s (packet p)).answer.answer t.settings.ground_source (command_id p) (arguments_of p) (arguments_few p) in
     record { short = f.0; quiet = f.1 }
 step_fits t ok s tick = record { short = lit≤ tt; quiet = λ q. refl }
 step_fits t ok s (fault f) =

@@ -19,7 +19,7 @@ step t run (fault f) = fault_step t run f
 
 -- the bytes that it writes at the start of the output
 abbrev pub bytes_for : Tables → Event → ℕ → List ℕ
-bytes_for t (packet p) n = cond (eqb n 10) (command_bytes t.settings.ground (command_id p) (arguments_of p)) []
+bytes_for t (packet p) n = cond (eqb n 10) (command_bytes t.settings.ground_source (command_id p) (arguments_of p)) []
 bytes_for t tick n = []
 bytes_for t (fault f) n =
     cond (eqb n 10) (command_bytes t.settings.fault (row_for (meant t f) t.rows).response (row_for (meant t f) t.rows).args) []

@@ -221,7 +221,7 @@ module _ (image : List Record) where
   abbrev pub packet_reply : List ℕ → ℕ → Reply
   packet_reply p n =
       cond (eqb n 10)
-      (dispatched_reply tables.settings.ground (command_id p) (destination (command_id p) tables.routes) (arguments_of p))
+      (dispatched_reply tables.settings.ground_source (command_id p) (destination (command_id p) tables.routes) (arguments_of p))
       (named_reply n (command_id p))
 
   abbrev pub row_meant : Option ℕ → FaultRow

@@ -68,7 +68,7 @@ pub fn first_settings() -> Settings
     ensures { result ≡ settings_of_records [] }
 {
     Settings {
-        ground: 0,
+        ground_source: 0,
         fault: 0,
         base: 0,
     }
@@ -82,7 +82,7 @@ pub fn settings_with(settings: Settings, kind: u16, body: &[u8]) -> Settings
 {
     let mut next = settings;
     if kind == 1 {
-        next.ground = word_at(body, 0);
+        next.ground_source = word_at(body, 0);
         next.fault = word_at(body, 2);
         next.base = word_at(body, 4);
         return next;

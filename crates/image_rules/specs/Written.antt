@@ -58,7 +58,7 @@ start_in b = get_or b 4 0
 abbrev pub settings_of_records : List Record → Settings
 settings_of_records rs =
     record {
-      ground = value_in 1 ground_in 0 rs;
+      ground_source = value_in 1 ground_in 0 rs;
       fault = value_in 1 fault_in 0 rs;
       base = value_in 1 base_in 0 rs;
     }
@@ -67,7 +67,7 @@ settings_of_records rs =
 abbrev pub settings_with : ℕ → List ℕ → Settings → Settings
 settings_with kind b s =
     record {
-      ground = cond (eqb kind 1) (ground_in b) s.ground;
+      ground_source = cond (eqb kind 1) (ground_in b) s.ground_source;
       fault = cond (eqb kind 1) (fault_in b) s.fault;
       base = cond (eqb kind 1) (base_in b) s.base;
     }

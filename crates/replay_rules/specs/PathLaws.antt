@@ -35,7 +35,7 @@ written_is t s (packet p) = go (accepted_under t p) refl
         (simp (refusal_under_not t p (eqb-false _ _ e) 10 refl))
     go true e =
         rw (← packet_accepted t s p (command_id p) (arguments_of p) (eqb-true _ _ e) refl refl)
-        (command_long (answer_to t s.standing.arm.armed (command_id p) (arguments_of p)) t.settings.ground (command_id p) (arguments_of p))
+        (command_long (answer_to t s.standing.arm.armed (command_id p) (arguments_of p)) t.settings.ground_source (command_id p) (arguments_of p))
 written_is t s tick = refl
 written_is t s (fault f) =
     let row = row_for (meant t f) t.rows in command_long (fault_answer s.states (meant t f)) t.settings.fault row.response row.args

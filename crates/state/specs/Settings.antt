@@ -7,16 +7,16 @@ use Rattle.state.specs.declared.types.Settings.{Settings}
 
 -- all zero, as in the state that a refused load hands back
 abbrev pub no_settings : Settings
-no_settings = record { ground = 0; fault = 0; base = 0 }
+no_settings = record { ground_source = 0; fault = 0; base = 0 }
 
 -- the ground and fault sources differ, own base is at most 65,528
 unfoldable pub settings_ok : Settings → Bool
 settings_ok s =
-    not (eqb s.ground s.fault)
+    not (eqb s.ground_source s.fault)
     && leb s.base 65528
 
 pub record SettingsOk (s : Settings) : Type 0 where
-  pub sources_differ : s.ground ≡ s.fault → ⊥
+  pub sources_differ : s.ground_source ≡ s.fault → ⊥
   pub base_fits : s.base ≤ 65528
 
 pub both : (a b : Bool) → (a && b) ≡ true → (a ≡ true) × (b ≡ true)
@@ -35,7 +35,7 @@ module _ {s : Settings} where
   pub settings_keeps : settings_ok s ≡ true → SettingsOk s
   unfolding settings_ok
   settings_keeps e =
-      let a = both (not (eqb s.ground s.fault)) _ e in
+      let a = both (not (eqb s.ground_source s.fault)) _ e in
       record {
         sources_differ = eqb-false _ _ (not-true _ a.0);
         base_fits = leb-true _ _ a.1;

@@ -22,7 +22,7 @@ pub fn is_own(base: u16, id: u16) -> bool
 pub fn settings_ok(settings: Settings) -> bool
     ensures { result ≡ settings_ok settings }
 {
-    if settings.ground == settings.fault {
+    if settings.ground_source == settings.fault {
         return false;
     }
     settings.base <= 65528

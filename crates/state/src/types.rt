@@ -9,7 +9,7 @@ ghost use Rattle.state.specs.Tables.{no_counts, with_arm, with_counts, run_from,
 #[repr(C)]
 #[derive(Drop)]
 pub struct Settings {
-    pub ground: u16,
+    pub ground_source: u16,
     pub fault: u16,
     pub base: u16,
 }
@@ -83,7 +83,7 @@ pub fn no_settings() -> Settings
     ensures { result ≡ no_settings }
 {
     Settings {
-        ground: 0,
+        ground_source: 0,
         fault: 0,
         base: 0,
     }

@@ -175,7 +175,7 @@ pub fn inner_packet<'a>(
     if d.sends {
         let id = packet_judge::judge::command_id(packet);
         let args = packet_judge::enquiry::accepted_part(packet);
-        dispatch::write(out, numbers.settings.ground, id, args);
+        dispatch::write(out, numbers.settings.ground_source, id, args);
     }
     m
 }

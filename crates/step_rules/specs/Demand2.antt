@@ -119,9 +119,9 @@ carries source id args out =
     })
 
 -- a packet's command carries the ground source, the packet's own id and its own arguments
-pub packet_carries : (t : Tables) (p out : List ℕ) → Carries t.settings.ground (command_id p) (arguments_of p) out (packet_output t 10 p out)
+pub packet_carries : (t : Tables) (p out : List ℕ) → Carries t.settings.ground_source (command_id p) (arguments_of p) out (packet_output t 10 p out)
 unfolding packet_output
-packet_carries t p out = carries t.settings.ground (command_id p) (arguments_of p) out
+packet_carries t p out = carries t.settings.ground_source (command_id p) (arguments_of p) out
 
 -- a response carries the fault source, the row's own command id and its own arguments
 pub fault_carries : (t : Tables) (f : ℕ) (out : List ℕ) → let row = row_for (meant t f) t.rows in Carries t.settings.fault row.response row.args out (fault_output t 10 f out)

@@ -231,11 +231,11 @@ module _ {c : Config} {arm : Arm} {before p : List ℕ} {r : Decision} {after : 
       record { step = d.step; output = packet_unsent (tables_of c) p out r.moved.answer.answer _ refl (sym d.for_10 ∙ h); long = d.long }
 
   pub moves_sent : r.sends ≡ true → {id : ℕ} {args : List ℕ} → id ≡ command_id p → args ≡ arguments_of p → (written : ℕ) (left : List ℕ)
-      → Wrote c.numbers.settings.ground id args out written left → PacketMoves c arm before p out r.moved after left
+      → Wrote c.numbers.settings.ground_source id args out written left → PacketMoves c arm before p out r.moved after left
   unfolding packet_output
   moves_sent h {id} {args} ei ea written left (w, o) =
       record {
         step = d.step;
-        output = o ∙ sent_10 r.moved.answer.answer c.numbers.settings.ground id args out (ap (λ (x : Moved). x.answer.answer) (d.sends h).moved) ∙ rw (ei, ea);
+        output = o ∙ sent_10 r.moved.answer.answer c.numbers.settings.ground_source id args out (ap (λ (x : Moved). x.answer.answer) (d.sends h).moved) ∙ rw (ei, ea);
         long = d.long;
       }

@@ -29,7 +29,7 @@ sent_answer t n shown id args = answer_from n shown (for10 n (dest_of id t.route
 
 -- a packet's command carries its own id and arguments, from the ground
 unfoldable pub packet_output : Tables → ℕ → List ℕ → List ℕ → List ℕ
-packet_output t n p out = sent n t.settings.ground (command_id p) (arguments_of p) out
+packet_output t n p out = sent n t.settings.ground_source (command_id p) (arguments_of p) out
 
 -- a response carries the row's own command id and arguments, from the fault source
 unfoldable pub fault_output : Tables → ℕ → ℕ → List ℕ → List ℕ

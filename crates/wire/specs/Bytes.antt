@@ -1,5 +1,5 @@
 -- Lists of bytes, as every packet and every buffer of the code is.
-use Rattle.std.specs.Prelude.{◌≡◌, refl, Bool, true, false, List, [], ◌∷◌, ◌++◌, ℕ, zero, suc, ◌+◌, ◌≤◌, ◌<◌, ltb, get_or, take, drop}
+use Rattle.std.specs.Prelude.{◌≡◌, refl, Bool, true, false, List, [], ◌∷◌, ◌++◌, ℕ, zero, suc, ◌+◌, ◌<◌, ltb, get_or, take, drop}
 use Rattle.std.proofs.Common.{arith, lit<, lit≤, length-take, get_or-take, get_or-drop, ltb-true, ltb-false}
 use Rattle.std.proofs.lemmas.Nat.{xor_lt}
 use Rattle.std.proofs.Math.ListN.{get_or-eq_default}
