@@ -1,4 +1,5 @@
 // Bytes from standard input through one buffer. Those from `start` up to `end` are read and not yet used.
+use std::io::Read;
 
 // The bytes between two places, none where they are not there.
 pub fn part(bytes: &[u8], from: usize, to: usize) -> &[u8] {
@@ -38,15 +39,28 @@ pub fn to_front(bytes: &mut [u8], start: usize, end: usize) {
     }
 }
 
-// Reads once, behind the bytes that are there; the place behind what came, the same place at the end of the input.
-pub fn refill(bytes: &mut [u8], end: usize) -> usize {
+// Reads once, behind the bytes that are there; the place behind what came, the same place at the end of the input and where
+// the reading fails.
+pub fn refill(reader: &mut impl Read, bytes: &mut [u8], end: usize) -> usize {
     if bytes.len() < end {
         return end;
     }
-    let got = libc::read(0, &mut bytes[end..]);
-    let n = io::count(got, &bytes[end..]);
-    if bytes.len() - end < n {
-        return end;
+    let most = bytes.len() - end;
+    match reader.read(&mut bytes[end..]) {
+        Ok(n) => forward(end, n, most + end),
+        Err(_error) => end,
     }
-    end + n
+}
+
+// Reads until the bytes are full, the input ends or a reading fails; how many came.
+pub fn fill(reader: &mut impl Read, bytes: &mut [u8]) -> usize {
+    let mut done = 0;
+    while done < bytes.len() {
+        let next = refill(reader, bytes, done);
+        if next <= done {
+            return done;
+        }
+        done = next;
+    }
+    done
 }

@@ -1,6 +1,7 @@
 // The replies of a replay as text: a line for each, its four numbers. The bytes of a command behind them are passed over.
 use crate::input;
 use replay_rules::recording;
+use std::io;
 
 // One line, from the numbers that a reply begins with.
 fn line(text: &mut [u8], at: usize, head: &[u8]) -> usize {
@@ -19,8 +20,8 @@ fn size(head: &[u8]) -> usize {
 }
 
 // Writes the lines of so many replies. The text is written out before it could lack the room for a line.
-pub fn write(replies: &[u8], count: usize) {
-    let mut text = io::buffer();
+pub fn write(rt: &impl Print, replies: &[u8], count: usize) -> io::Result<()> {
+    let mut text = [0u8; 4096];
     let mut n = 0;
     let mut at = 0;
     let mut k = 0;
@@ -29,10 +30,10 @@ pub fn write(replies: &[u8], count: usize) {
         n = line(&mut text, n, head);
         at = input::forward(at, size(head), replies.len());
         if 4000 < n {
-            io::write_all(1, text::first(&text, n));
+            rt.write_all(text::first(&text, n))?;
             n = 0;
         }
         k += 1;
     }
-    io::write_all(1, text::first(&text, n));
+    rt.write_all(text::first(&text, n))
 }

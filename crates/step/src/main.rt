@@ -4,30 +4,31 @@ mod lines;
 mod session;
 
 use image_load::types::Loaded;
+use std::rt::Files;
+use std::{fs, io};
 
 // The image is the first 65,536 bytes of path.cfg; a file that can't be opened counts as an empty image.
-fn load() -> Loaded {
-    let mut bytes = io::large_buffer();
-    let fd = os::open_read(b"path.cfg");
-    if fd < 0 {
-        return image_load::load::load(&[]);
+fn load(rt: &impl Files) -> Loaded {
+    let mut bytes = [0u8; 65536];
+    match fs::open(rt, "path.cfg") {
+        Ok(mut file) => {
+            let n = input::fill(&mut file, &mut bytes);
+            image_load::load::load(input::part(&bytes, 0, n))
+        }
+        Err(_error) => image_load::load::load(&[]),
     }
-    let n = io::read_full(fd, &mut bytes);
-    libc::close(fd);
-    image_load::load::load(&bytes[..n])
 }
 
-fn main() {
-    let loaded = load();
-    let mut line = io::buffer();
+fn main(rt: HostRuntime) -> io::Result<()> {
+    let loaded = load(&rt);
+    let mut line = [0u8; 64];
     let n = text::put_number(&mut line, 0, loaded.answer as u64, b' ');
     let n = text::put_number(&mut line, n, loaded.offset as u64, b'\n');
-    io::write_all(1, text::first(&line, n));
+    rt.write_all(text::first(&line, n))?;
     if loaded.answer != 0 {
-        io::write_all(1, b"bad\n");
-        return;
+        return rt.write_all(b"bad\n");
     }
     let config = loaded.config;
     let run = loaded.run;
-    session::run_all(config, run);
+    session::run_all(&rt, config, run)
 }

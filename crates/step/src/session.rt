@@ -2,6 +2,8 @@
 use crate::{input, lines};
 use replay_rules::recording;
 use state::types::{Config, Run};
+use std::io;
+use std::io::Read;
 
 // Where a session stands: the run, and the bytes read and not yet used.
 #[derive(Drop)]
@@ -13,51 +15,69 @@ pub struct At {
 }
 
 // The session ends; `bad` where a record was.
-fn ended(at: At, bad: bool) -> At {
+fn ended(rt: &impl Print, at: At, bad: bool) -> io::Result<At> {
     if bad {
-        io::write_all(1, b"bad\n");
+        rt.write_all(b"bad\n")?;
     }
     let mut next = at;
     next.more = false;
-    next
+    Ok(next)
 }
 
 // More bytes are wanted. Where none come, what is left of a record is bad.
-fn wanting(at: At, bytes: &mut [u8]) -> At {
+fn wanting(
+    rt: &impl Print,
+    reader: &mut impl Read,
+    at: At,
+    bytes: &mut [u8],
+) -> io::Result<At> {
     if at.end < at.start {
-        return ended(at, true);
+        return ended(rt, at, true);
     }
     input::to_front(bytes, at.start, at.end);
     let kept = at.end - at.start;
     let mut next = at;
     next.start = 0;
-    next.end = input::refill(bytes, kept);
+    next.end = input::refill(reader, bytes, kept);
     if next.end <= kept {
-        return ended(next, kept != 0);
+        return ended(rt, next, kept != 0);
     }
-    next
+    Ok(next)
 }
 
 // What follows a turn that stopped so: room is made by the next turn, a record that is cut may be whole once more bytes are
 // there, and any other stop but the end is a bad record.
-fn onward(at: At, stop: u8, bytes: &mut [u8]) -> At {
+fn onward(
+    rt: &impl Print,
+    reader: &mut impl Read,
+    at: At,
+    stop: u8,
+    bytes: &mut [u8],
+) -> io::Result<At> {
     if stop == recording::OUTPUT_FULL {
-        return at;
+        return Ok(at);
     }
     if stop == recording::CUT_SHORT {
-        return wanting(at, bytes);
+        return wanting(rt, reader, at, bytes);
     }
     if stop != 0 {
-        return ended(at, true);
+        return ended(rt, at, true);
     }
-    wanting(at, bytes)
+    wanting(rt, reader, at, bytes)
 }
 
 // One turn: the records that are there, as many as the output holds replies to, and their lines.
-fn turn(config: Config, at: At, bytes: &mut [u8], out: &mut [u8]) -> At {
+fn turn(
+    rt: &impl Print,
+    reader: &mut impl Read,
+    config: Config,
+    at: At,
+    bytes: &mut [u8],
+    out: &mut [u8],
+) -> io::Result<At> {
     let old = at.run;
     let piece = replay::replay::resume(config, old, input::part(bytes, at.start, at.end), out);
-    lines::write(out, piece.count);
+    lines::write(rt, out, piece.count)?;
     let run = piece.run;
     let next = At {
         run: run,
@@ -65,13 +85,14 @@ fn turn(config: Config, at: At, bytes: &mut [u8], out: &mut [u8]) -> At {
         end: at.end,
         more: true,
     };
-    onward(next, piece.stop, bytes)
+    onward(rt, reader, next, piece.stop, bytes)
 }
 
 // All of standard input. The turns count down from a number that no session uses up.
-pub fn run_all(config: Config, run: Run) {
+pub fn run_all(rt: &(impl Print + Input), config: Config, run: Run) -> io::Result<()> {
+    let mut reader = rt.reader();
     let mut bytes = [0u8; 131072];
-    let mut out = io::large_buffer();
+    let mut out = [0u8; 65536];
     let mut at = At {
         run: run,
         start: 0,
@@ -81,9 +102,10 @@ pub fn run_all(config: Config, run: Run) {
     let mut turns = u64::MAX;
     while turns > 0 {
         if !at.more {
-            return;
+            return Ok(());
         }
-        at = turn(config, at, &mut bytes, &mut out);
+        at = turn(rt, &mut reader, config, at, &mut bytes, &mut out)?;
         turns -= 1;
     }
+    Ok(())
 }
