@@ -1,0 +1,31 @@
+-- `refusal`: each return is one line of `Outcome`; the form's checks count as `form_refusal` found them.
+use Rattle.std.proofs.Common.{◌∙◌, arith}
+use Rattle.packet_rules.specs.JudgeOutcome.{below_6, not_whole, no_room, too_many, taken}
+use Rattle.packet_rules.specs.JudgeLaws.{only, formed, form_counts}
+use Rattle.packet_judge.proofs.judge.refusal.Goals as goal
+
+pub returns-then-size-lt6 : goal.returns-then-size-lt6
+returns-then-size-lt6 c = only (below_6 (omega arith))
+
+pub returns-then-size-field : goal.returns-then-size-field
+returns-then-size-field c = only (not_whole (omega arith) (omega arith))
+
+pub returns-then-form-ne0 : goal.returns-then-form-ne0
+returns-then-form-ne0 c = c.form_refusal-form.ensures ∙ form_counts _ (omega arith) (omega arith)
+
+pub returns-then-size-pads : goal.returns-then-size-pads
+returns-then-size-pads c = only (no_room (omega arith) (formed _ (omega arith)) (omega arith))
+
+pub returns-then-size-pads-gt255 : goal.returns-then-size-pads-gt255
+returns-then-size-pads-gt255 c = only (too_many (omega arith) (formed _ (omega arith)) (omega arith) (omega arith))
+
+pub returns : goal.returns
+returns c =
+    only
+    (taken
+    (record {
+      sized = record { long = omega arith; whole = omega arith };
+      formed = formed _ (omega arith);
+      room = omega arith;
+      few = omega arith;
+    }))
