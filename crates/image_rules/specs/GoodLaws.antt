@@ -1,6 +1,6 @@
 -- From each to all: records of which each is good behind those before it are in order, and their tables and start states keep
 -- the rules.
-use Rattle.std.specs.Prelude.{◌≡◌, refl, ◌⊎◌, true, cond, ℕ, suc, ◌+◌, ◌≤◌, eqb, length}
+use Rattle.std.specs.Prelude.{◌≡◌, refl, ◌⊎◌, true, cond, ℕ, suc, ◌≤◌, eqb, length}
 use Rattle.std.proofs.Common.{◌∙◌, inl, inr, arith, length-append, ne_eqb, eqb-true}
 use mathlib.Core.List.Memᴰ
 use mathlib.Core.List.{List, [], ◌∷◌, ◌++◌, map, map-append, append-nil, append_assoc, Memᴰ}

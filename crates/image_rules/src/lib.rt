@@ -1,2 +1,4 @@
 // The records of a configuration image, what refuses one, and which images are good: the frame of a record; the rest is in specs/.
+#![tactic(auto)]
+
 pub mod record;

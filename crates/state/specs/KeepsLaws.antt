@@ -41,6 +41,7 @@ module _ {base id : ℕ} where
   own_not e o = false≢true (sym e ∙ own_kept o)
 
 pub member_kept : {x : ℕ} {ys : List ℕ} → Memᴰ x ys → member x ys ≡ true
+member_kept {x} {ys = []} m = elim m [ ]
 member_kept {x} {ys = y ∷ ys} (Memᴰ.head e) = simp (eq-eqb _ _ e)
 member_kept {x} {ys = y ∷ ys} (Memᴰ.tail m) = split (member x (y ∷ ys) ≡ true) (eqb x y) (λ p. simp p) (λ p. simp (p, member_kept m))
 

@@ -6,6 +6,7 @@ ghost use Rattle.state.specs.Rules.{own, route_ok, protected_ok, row_ok, start_o
 use crate::types::Settings;
 
 // The id is one of the eight own ids.
+#[tactic(auto, unfolding(crate::specs::Rules::own))]
 pub fn is_own(base: u16, id: u16) -> bool
     ensures { result ≡ own base id }
 {
@@ -19,6 +20,7 @@ pub fn is_own(base: u16, id: u16) -> bool
 }
 
 // The sources differ, and the own ids end within 65,535.
+#[tactic(auto, unfolding(crate::specs::Settings::settings_ok))]
 pub fn settings_ok(settings: Settings) -> bool
     ensures { result ≡ settings_ok settings }
 {
@@ -29,6 +31,7 @@ pub fn settings_ok(settings: Settings) -> bool
 }
 
 // The destination is 1 to 31, and the id is no own id.
+#[tactic(auto, unfolding(crate::specs::Rules::route_ok))]
 pub fn route_ok(base: u16, id: u16, dest: u8) -> bool
     ensures { result ≡ route_ok base id dest }
 {
@@ -42,6 +45,7 @@ pub fn route_ok(base: u16, id: u16, dest: u8) -> bool
 }
 
 // The id, of which it is known whether it is routed, is routed or own, and is not the arm id.
+#[tactic(auto, unfolding(crate::specs::Rules::protected_ok))]
 pub fn protected_ok(base: u16, routed: bool, id: u16) -> bool
     ensures { result ≡ protected_ok base routed id }
 {
@@ -55,6 +59,7 @@ pub fn protected_ok(base: u16, routed: bool, id: u16) -> bool
 }
 
 // The response id is routed, and latching is 0 or 1.
+#[tactic(auto, unfolding(crate::specs::Rules::row_ok))]
 pub fn row_ok(routed: bool, latching: u8) -> bool
     ensures { result ≡ row_ok routed latching }
 {
@@ -65,6 +70,7 @@ pub fn row_ok(routed: bool, latching: u8) -> bool
 }
 
 // The start state is 0 or 1.
+#[tactic(auto, unfolding(crate::specs::Rules::start_ok))]
 pub fn start_ok(start: u8) -> bool
     ensures { result ≡ start_ok start }
 {

@@ -7,7 +7,7 @@ ghost use Rattle.state.specs.Tables.{no_counts, with_arm, with_counts, run_from,
 
 // What the single records of an image set: the sources and own base.
 #[repr(C)]
-#[derive(Drop)]
+#[derive(Clone, Copy)]
 pub struct Settings {
     pub ground_source: u16,
     pub fault: u16,
@@ -16,7 +16,7 @@ pub struct Settings {
 
 // The numbers of a configuration: its settings, and the rows in use of each table. They go by value, beside lent columns.
 #[repr(C)]
-#[derive(Drop)]
+#[derive(Clone, Copy)]
 pub struct Numbers {
     pub settings: Settings,
     pub nroutes: usize,
@@ -27,7 +27,7 @@ pub struct Numbers {
 // The configuration: its numbers, and the columns of the three tables. A step is lent the columns that it looks at, and copies
 // none.
 #[repr(C)]
-#[derive(Drop)]
+#[derive(Clone, Copy)]
 pub struct Config {
     pub numbers: Numbers,
     pub routeids: [u16; 128],
@@ -43,7 +43,7 @@ pub struct Config {
 
 // The small arm record.
 #[repr(C)]
-#[derive(Drop)]
+#[derive(Clone, Copy)]
 pub struct Arm {
     pub armed: bool,
     pub ticks: u16,
@@ -51,7 +51,7 @@ pub struct Arm {
 
 // The seven counters, in the paper's order: accepted, rejected, dispatched, protected, unknown, invalid, faults.
 #[repr(C)]
-#[derive(Drop)]
+#[derive(Clone, Copy)]
 pub struct Counts {
     pub a: u16,
     pub r: u16,
@@ -64,7 +64,7 @@ pub struct Counts {
 
 // What steps change beside the fault states. It goes by value, and most functions hand it on as it came.
 #[repr(C)]
-#[derive(Drop)]
+#[derive(Clone, Copy)]
 pub struct Standing {
     pub arm: Arm,
     pub counts: Counts,
@@ -72,7 +72,7 @@ pub struct Standing {
 
 // What steps change. A fault state is 0 disabled, 1 enabled, 2 latched.
 #[repr(C)]
-#[derive(Drop)]
+#[derive(Clone, Copy)]
 pub struct Run {
     pub standing: Standing,
     pub states: [u8; 32],

@@ -4,6 +4,8 @@
 // column, in its own words; that ids rise is asked where the answer is to be the id's place. It goes down from the count: of a
 // search that goes up from the first row the first look is at a place that the compiler knows, and it was made whether or not the
 // table reached so far.
+#![tactic(auto)]
+
 ghost use Rattle.std.specs.Prelude.{◌≡◌, ℕ, ◌≤◌, length, take};
 ghost use Rattle.state.specs.Rules.{member};
 ghost use Rattle.state.specs.Lookup.{place_in, Column};

@@ -1,5 +1,7 @@
 // A run of bytes put into a lent buffer in blocks, as `wire::put::bytes` does one by one: for the arguments of a command, of which
 // there may be 255.
+#![tactic(auto)]
+
 ghost use Rattle.std.specs.Prelude.{◌≡◌, ◌+◌, ◌≤◌, length, take, drop};
 ghost use Rattle.wire.specs.Put.{put_at};
 
