@@ -1,6 +1,8 @@
 // Builds the worked packets of document 01 from their fields, and packets at every limit and one past it, each into a buffer
 // full of EE. Prints of each its name, the answer and the bytes written; the judge's answer, id and argument count for what was
 // written; the byte behind that; and of a short packet its bytes in hex.
+#![tactic(auto)]
+
 use build_rules::types::Built;
 use packet_judge::judge;
 

@@ -1,5 +1,7 @@
 // Loads configuration C of document 01, images that differ from it in one place, and images one row past each limit, and
 // prints of each its name and the load's answer and offset.
+#![tactic(auto)]
+
 
 // Configuration C: basics, two routes, a protected id, a fault row; its records begin at 0, 10, 17, 24 and 30.
 const C: [u8; 42] = [

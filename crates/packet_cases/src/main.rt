@@ -1,5 +1,7 @@
 // Judges the worked packets of document 01, their damaged forms, and packets at the edges of the rules, and prints of each
 // its name and the judge's answer, command id and argument count; then what the enquiry gives for some of them.
+#![tactic(auto)]
+
 use packet_judge::{enquiry, judge};
 
 // G of document 01: command 20, no arguments.

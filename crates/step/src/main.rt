@@ -1,4 +1,6 @@
 // The step program of document 01: the configuration from path.cfg, records from standard input, one line a step.
+#![tactic(auto)]
+
 mod input;
 mod lines;
 mod session;

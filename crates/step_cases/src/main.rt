@@ -1,5 +1,7 @@
 // Steps at the edges of the rules on configuration C of document 01: output room, states that break their rules, own commands
 // and fault numbers. Prints of each its name, the four numbers, the arm record, the first row's state and the counters.
+#![tactic(auto)]
+
 use image_load::types::Loaded;
 use state::types::{Config, Counts, Run};
 use step_rules::types::Stepped;

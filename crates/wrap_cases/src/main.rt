@@ -1,5 +1,7 @@
 // Steps configuration C of document 01 more than 65,536 times by one packet or fault, and prints how many of the answers were
 // the expected one, counted plainly, and beside it the seven counters.
+#![tactic(auto)]
+
 use image_load::types::Loaded;
 use state::types::{Config, Counts, Run};
 use step_rules::types::Stepped;
