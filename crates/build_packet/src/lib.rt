@@ -1,4 +1,6 @@
 // The packet builder: a telecommand packet from its fields, in the form that the judge accepts.
+#![tactic(auto)]
+
 ghost use Rattle.std.specs.Prelude.{◌≡◌, length};
 ghost use Rattle.wire.specs.Put.{over};
 ghost use Rattle.build_rules.specs.Build.{given, packet_of, built_of, built_output};

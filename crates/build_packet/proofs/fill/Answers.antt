@@ -1,0 +1,11 @@
+-- `fill`: four puts, each right behind the one before.
+use Rattle.build_rules.specs.Build.{given}
+use Rattle.build_rules.specs.BuildLaws.{filled}
+use Rattle.build_packet.proofs.fill.Goals as goal
+
+pub returns : goal.returns
+returns c =
+    let g = c.args in
+    filled (given g.apid g.count g.id g.args.now g.pads) g.out.now _ _ _ _ _ _ _
+    c.primary-header.ensures c.high.ensures c.low.ensures
+    c.bytes.ensures c.bytes-2.ensures c.bytes-3.ensures c.zeros.ensures
