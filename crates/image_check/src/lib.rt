@@ -2,6 +2,8 @@
 // and ids, the room in its table, and its rules. Each asks in the order of the numbers and returns at the first that fails. Of
 // the rows before it only the ids are looked at, in arrays that are lent, so that nothing is copied; and only those that the
 // kind has to know of.
+#![tactic(auto)]
+
 ghost use Rattle.std.specs.Prelude.{◌≡◌, true, ◌&&◌, [], ◌≤◌, leb, length, take};
 ghost use Rattle.wire.specs.Check.{check};
 ghost use Rattle.state.specs.Tables.{Tables, routed};
