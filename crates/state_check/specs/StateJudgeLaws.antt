@@ -11,7 +11,7 @@ use Rattle.state.specs.Tables.{FaultRow, route_id, fault_id, listed, route_at, r
 use Rattle.state.specs.Sized.{Sized, LentSized}
 use Rattle.state.specs.ArrayLaws.{column_of, routed_is}
 use Rattle.state.specs.Settings.{settings_ok}
-use Rattle.state.specs.Keeps.{Rising, Each}
+use Rattle.state.specs.Keeps.{Each}
 use Rattle.state.specs.Lookup.{Column}
 use Rattle.state.specs.Test.{rising_all, row_passes, all_zero, args_zero, routes_kept, rows_kept, rules_kept, counted, unused_zero, config_kept, arm_ok, state_ok, states_ok, run_kept, keeps_rules}
 use Rattle.state.specs.KeepsLaws.{split, both, rising_keeps, route_keeps, counts_keeps}

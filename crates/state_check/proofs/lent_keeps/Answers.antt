@@ -16,7 +16,7 @@ pub returns-then-not-settings_ok : goal.returns-then-not-settings_ok
 returns-then-not-settings_ok c = refused c.requires c.args.standing 2 c.settings_ok.ensures (ap not c.if-not-settings_ok.true)
 
 pub routes_judged-requires : goal.routes_judged-requires
-routes_judged-requires c = 
+routes_judged-requires c =
     let n = counts_keeps (sym c.counts_ok.ensures ∙ c.if-not-counts_ok.false) in
     let b = settings_keeps (sym c.settings_ok.ensures ∙ c.if-not-settings_ok.false) in
     omega (arith, b.base_fits, c.requires.columns.dests_128)
@@ -25,7 +25,7 @@ pub returns-then-not-routes_judged : goal.returns-then-not-routes_judged
 returns-then-not-routes_judged c = refused c.requires c.args.standing 3 c.routes_judged.ensures (ap not c.if-not-routes_judged.true)
 
 pub rows_keep-requires : goal.rows_keep-requires
-rows_keep-requires c = 
+rows_keep-requires c =
     let n = counts_keeps (sym c.counts_ok.ensures ∙ c.if-not-counts_ok.false) in
     (routes_rise c.requires c.args.standing (omega arith) (passed c.requires c.args.standing 3 c.routes_judged.ensures (ap not c.if-not-routes_judged.false)), omega arith, omega arith, omega arith)
 
@@ -39,7 +39,7 @@ pub returns-then-not-zero_three : goal.returns-then-not-zero_three
 returns-then-not-zero_three c = refused c.requires c.args.standing 6 c.zero_three.ensures (ap not c.if-not-zero_three.true)
 
 pub args_keep-requires : goal.args_keep-requires
-args_keep-requires c = 
+args_keep-requires c =
     let n = counts_keeps (sym c.counts_ok.ensures ∙ c.if-not-counts_ok.false) in
     omega arith
 
@@ -47,20 +47,35 @@ pub returns-then-not-args_keep : goal.returns-then-not-args_keep
 returns-then-not-args_keep c = refused c.requires c.args.standing 7 c.args_keep.ensures (ap not c.if-not-args_keep.true)
 
 pub states_keep-requires : goal.states_keep-requires
-states_keep-requires c = 
+states_keep-requires c =
     let n = counts_keeps (sym c.counts_ok.ensures ∙ c.if-not-counts_ok.false) in
     (omega arith, omega arith, zero_behind c.requires c.args.standing (passed c.requires c.args.standing 6 c.zero_three.ensures (ap not c.if-not-zero_three.false)))
 
 pub returns : goal.returns
-returns c = 
-    judged c.requires c.args.standing
-    (passed c.requires c.args.standing 0 c.counts_ok.ensures (ap not c.if-not-counts_ok.false),
-    (passed c.requires c.args.standing 1 c.arm_ok.ensures (ap not c.if-not-arm_ok.false),
-    (passed c.requires c.args.standing 2 c.settings_ok.ensures (ap not c.if-not-settings_ok.false),
-    (passed c.requires c.args.standing 3 c.routes_judged.ensures (ap not c.if-not-routes_judged.false),
-    (passed c.requires c.args.standing 4 c.rows_keep.ensures (ap not c.if-not-rows_keep.false),
-    (passed c.requires c.args.standing 5 c.zero_two.ensures (ap not c.if-not-zero_two.false),
-    (passed c.requires c.args.standing 6 c.zero_three.ensures (ap not c.if-not-zero_three.false),
-    (passed c.requires c.args.standing 7 c.args_keep.ensures (ap not c.if-not-args_keep.false),
-    tt))))))))
+returns c =
+    judged c.requires c.args.standing (
+      passed c.requires c.args.standing 0 c.counts_ok.ensures (ap not c.if-not-counts_ok.false),
+      (
+        passed c.requires c.args.standing 1 c.arm_ok.ensures (ap not c.if-not-arm_ok.false),
+        (
+          passed c.requires c.args.standing 2 c.settings_ok.ensures (ap not c.if-not-settings_ok.false),
+          (
+            passed c.requires c.args.standing 3 c.routes_judged.ensures (ap not c.if-not-routes_judged.false),
+            (
+              passed c.requires c.args.standing 4 c.rows_keep.ensures (ap not c.if-not-rows_keep.false),
+              (
+                passed c.requires c.args.standing 5 c.zero_two.ensures (ap not c.if-not-zero_two.false),
+                (
+                  passed c.requires c.args.standing 6 c.zero_three.ensures (ap not c.if-not-zero_three.false),
+                  (
+                    passed c.requires c.args.standing 7 c.args_keep.ensures (ap not c.if-not-args_keep.false),
+                    tt,
+                  ),
+                ),
+              ),
+            ),
+          ),
+        ),
+      ),
+    )
     c.states_keep.ensures

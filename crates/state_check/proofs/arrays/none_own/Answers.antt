@@ -5,6 +5,6 @@ use Rattle.state_check.specs.Walks.{on, each_at, is_foreign}
 use Rattle.state_check.proofs.arrays.none_own.Goals as goal
 
 pub loop-k-preserved : goal.loop-k-preserved
-loop-k-preserved c = 
+loop-k-preserved c =
     on c.loop-k.invariant (each_at (foreign c.args.base) c.args.ids.now c.args.n c.loop-k.k (omega arith))
     (c.either.ensures ∙ is_foreign c.args.base _) c.both-ok.ensures

@@ -5,7 +5,7 @@ use Rattle.state_check.specs.Walks.{Gathered}
 use Rattle.state_check.proofs.arrays.zero_three.Given as goal
 
 abbrev pub invariant-loop-j : goal.invariant-loop-j
-invariant-loop-j l = 
+invariant-loop-j l =
     Gathered
     (all_zero (drop l.from l.a) && (all_zero (drop l.from l.b) && all_zero (drop l.from l.c)))
     (all_zero (drop l.j l.a) && (all_zero (drop l.j l.b) && all_zero (drop l.j l.c)))

@@ -6,7 +6,7 @@ use Rattle.state_check.specs.Walks.{Gathered}
 use Rattle.state_check.proofs.tables.protected_keep.Given as goal
 
 abbrev pub invariant-loop-k : goal.invariant-loop-k
-invariant-loop-k l = 
+invariant-loop-k l =
     let is = take l.n l.ids in
     Gathered (protected_kept l.base is (take l.m l.protected)) (each (protected_passes l.base is) (drop l.k (take l.m l.protected))) true
 

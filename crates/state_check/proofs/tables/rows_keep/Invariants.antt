@@ -8,7 +8,7 @@ use Rattle.state_check.specs.Walks.{Gathered}
 use Rattle.state_check.proofs.tables.rows_keep.Given as goal
 
 abbrev pub invariant-loop-k : goal.invariant-loop-k
-invariant-loop-k l = 
+invariant-loop-k l =
     let is = take l.n l.ids in
     Gathered (rows_kept is (argless l.faultids l.responses l.latching l.m)) (each (among is) (drop l.k (take l.m l.responses))) true
 

@@ -7,7 +7,7 @@ use Rattle.state_check.specs.Walks.{Gathered}
 use Rattle.state_check.proofs.tables.states_keep.Given as goal
 
 abbrev pub invariant-loop-k : goal.invariant-loop-k
-invariant-loop-k l = 
+invariant-loop-k l =
     let f = row_at [] [] l.latching [] [] in
     (l.k ≤ l.n) × Gathered (states_ok (listed f 0 l.n) l.states) (states_from f l.n l.states l.k) l.ok
 
