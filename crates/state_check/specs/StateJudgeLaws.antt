@@ -2,7 +2,7 @@
 -- rows, and a row without its arguments where they do not count.
 use Rattle.std.specs.Prelude.{◌≡◌, refl, Bool, true, false, not, ◌&&◌, ℕ, zero, suc, ◌≤◌, length, get_or, take, drop}
 use Rattle.std.proofs.Common.{sym, ap, ◌∙◌, arith}
-use Rattle.std.proofs.Math.Bool.{and_true, and-false, and_self, and_assoc}
+use Rattle.std.proofs.Math.Bool.{and-true, and-false, and_self, and_assoc}
 use mathlib.Core.List.{List, [], ◌∷◌, ◌++◌}
 use Rattle.state.specs.declared.types.Config.{Config}
 use Rattle.state.specs.declared.types.Standing.{Standing}
@@ -11,7 +11,7 @@ use Rattle.state.specs.Tables.{FaultRow, route_id, fault_id, listed, route_at, r
 use Rattle.state.specs.Sized.{Sized, LentSized}
 use Rattle.state.specs.ArrayLaws.{column_of, routed_is}
 use Rattle.state.specs.Settings.{settings_ok}
-use Rattle.state.specs.Keeps.{Rising, Each}
+use Rattle.state.specs.Keeps.{Each}
 use Rattle.state.specs.Lookup.{Column}
 use Rattle.state.specs.Test.{rising_all, row_passes, all_zero, args_zero, routes_kept, rows_kept, rules_kept, counted, unused_zero, config_kept, arm_ok, state_ok, states_ok, run_kept, keeps_rules}
 use Rattle.state.specs.KeepsLaws.{split, both, rising_keeps, route_keeps, counts_keeps}
@@ -81,7 +81,7 @@ one_fails zero (p ∷ ps) e = rw e
 one_fails (suc k) (p ∷ ps) e = sym (rw (← one_fails k ps e) (and-false p))
 
 last_decides : (ps : List Bool) (b : Bool) → Each (λ p. p ≡ true) ps → b ≡ all (ps ++ b ∷ [])
-last_decides [] b h = sym (and_true b)
+last_decides [] b h = sym (and-true b)
 last_decides (p ∷ ps) b h = rw h.0 (last_decides ps b h.1)
 
 module _ (c : Config) (r : Run) (s : Sized c) where
@@ -101,7 +101,7 @@ module _ (c : Config) (r : Run) (s : Sized c) where
         argless_rising c.faultids c.responses c.latching c.argcounts c.args,
         argless_states c.faultids c.responses c.latching c.argcounts c.args,
       )
-      (simp (e, and_assoc, and_true)
+      (simp (e, and_assoc, and-true)
       (rw (
         and_swap rows (all_zero (drop n.nroutes c.routeids)),
         and_swap rows (all_zero (drop n.nroutes c.dests)),

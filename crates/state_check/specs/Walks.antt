@@ -1,7 +1,7 @@
 -- Laws of walks over arrays: what stands at a place, and what a walk that has passed the places before it keeps true.
 use Rattle.std.specs.Prelude.{◌≡◌, refl, Bool, true, false, not, ◌&&◌, ◌||◌, List, [], ◌∷◌, ℕ, zero, suc, ◌+◌, ◌-◌, ◌*◌, ◌<◌, ◌≤◌, leb, ltb, eqb, length, get_or, take, drop}
 use Rattle.std.proofs.Common.{sym, ap, ◌∙◌, add-one, arith, length-take, drop_of_length-le, drop-cons, drop-drop, get_or-take, le-leb, lt-ltb, le-ltb, leb-true, leb-false}
-use Rattle.std.proofs.Math.Bool.{and-false, and_true, and_assoc}
+use Rattle.std.proofs.Math.Bool.{and-false, and-true, and_assoc}
 use Rattle.std.proofs.Math.Dec.{leb-zero}
 use Rattle.std.proofs.lemmas.Bool.{lt-leb, not-true, not-false}
 use Rattle.state.specs.Rules.{own}
@@ -37,7 +37,7 @@ pub unwalked : {w : Bool} → Gathered w w true
 unwalked = record { rest = refl }
 
 turned : (a t r : Bool) → (a && (t && r)) ≡ ((t && a) && r)
-turned true t r = ap (λ (b : Bool). b && r) (sym (and_true t))
+turned true t r = ap (λ (b : Bool). b && r) (sym (and-true t))
 turned false t r = ap (λ (b : Bool). b && r) (sym (and-false t))
 
 module _ {w left a : Bool} (h : Gathered w left a) where
@@ -45,7 +45,7 @@ module _ {w left a : Bool} (h : Gathered w left a) where
   on {rest} {t} n e f = record { rest = h.rest ∙ rw (n.rest, f, e) (turned a t rest) }
 
   pub ends : left ≡ true → a ≡ w
-  ends e = sym (h.rest ∙ rw e (and_true a))
+  ends e = sym (h.rest ∙ rw e (and-true a))
 
   -- where a walk returns at the first that fails
   pub refuses : a ≡ false → false ≡ w

@@ -1,5 +1,7 @@
 // The judge of a whole state, which every public step asks first: each part with what it does not use, and no part behind one that
 // fails.
+#![tactic(auto)]
+
 mod arrays;
 mod tables;
 mod values;

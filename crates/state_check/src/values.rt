@@ -30,6 +30,7 @@ pub(crate) fn all(a: bool, b: bool, c: bool, d: bool) -> bool
 }
 
 // No table has more rows than its limit.
+#[tactic(auto, unfolding(state::specs::Test::counted))]
 pub(crate) fn counts_ok(nroutes: usize, nprotected: usize, nrows: usize) -> bool
     ensures { result ≡ counted nroutes nprotected nrows }
 {
@@ -43,6 +44,7 @@ pub(crate) fn counts_ok(nroutes: usize, nprotected: usize, nrows: usize) -> bool
 }
 
 // Unarmed with no ticks, or armed with at most 255.
+#[tactic(auto, unfolding(state::specs::Test::arm_ok))]
 pub(crate) fn arm_ok(armed: bool, ticks: u16) -> bool
     ensures { result ≡ arm_ok armed ticks }
 {
@@ -53,6 +55,7 @@ pub(crate) fn arm_ok(armed: bool, ticks: u16) -> bool
 }
 
 // A known fault state, and latched only in a row that latches. No branches, since the loop over the states has none.
+#[tactic(auto, unfolding(state::specs::Test::state_ok))]
 pub(crate) fn state_ok(latching: u8, s: u8) -> bool
     ensures { result ≡ state_ok latching s }
 {

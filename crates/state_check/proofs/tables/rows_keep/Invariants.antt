@@ -1,0 +1,16 @@
+-- `rows_keep`: the fault ids rise, latching is 0 or 1, and the responses that were passed are routed.
+use Rattle.std.proofs.Common.{◌-◌, true, take, drop}
+use Rattle.state.specs.Test.{rows_kept}
+use Rattle.state_check.specs.TableParts.{argless}
+use Rattle.state_check.specs.Apart.{among}
+use Rattle.state_check.specs.Each.{each}
+use Rattle.state_check.specs.Walks.{Gathered}
+use Rattle.state_check.proofs.tables.rows_keep.Given as goal
+
+abbrev pub invariant-loop-k : goal.invariant-loop-k
+invariant-loop-k l =
+    let is = take l.n l.ids in
+    Gathered (rows_kept is (argless l.faultids l.responses l.latching l.m)) (each (among is) (drop l.k (take l.m l.responses))) true
+
+abbrev pub decreases-loop-k : goal.decreases-loop-k
+decreases-loop-k l = l.m - l.k
