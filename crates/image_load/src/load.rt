@@ -63,7 +63,7 @@ fn loaded(config: Config, states: [u8; 32]) -> Loaded
 }
 
 // What reading the records came to: 0, or the refusal and the offset of the first bad one; and the numbers of the configuration.
-#[derive(Drop)]
+#[derive(Clone, Copy)]
 struct Reading {
     refusal: u8,
     offset: usize,

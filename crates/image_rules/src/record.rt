@@ -15,7 +15,7 @@ pub fn word_at(bytes: &[u8], at: usize) -> u16
 }
 
 // A record that was found: its end and its kind. Its body begins 4 bytes behind its place.
-#[derive(Drop)]
+#[derive(Clone, Copy)]
 pub struct Found {
     pub end: usize,
     pub kind: u16,

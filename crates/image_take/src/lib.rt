@@ -1,5 +1,7 @@
 // Taking a record, one function for each kind of rows: it checks the record and stores it behind those before it, in columns that
 // are lent. Each answers 0 or the refusal; the numbers behind a record that was taken are those of `numbers_behind`.
+#![tactic(auto)]
+
 ghost use Rattle.std.specs.Prelude.{◌≡◌, List, ℕ, ◌+◌};
 ghost use Rattle.state.specs.declared.types.Config.{Config};
 ghost use Rattle.state.specs.Tables.{config_from};

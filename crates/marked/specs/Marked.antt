@@ -1,6 +1,6 @@
 -- Document 01, the marked cases (*): one table, one statement, by computation on the rules: loading, the judge and the plain
 -- reading.
-use Rattle.std.specs.Prelude.{◌≡◌, refl, List, [], ◌∷◌, ◌++◌, map, ℕ, replicate, get_or}
+use Rattle.std.specs.Prelude.{◌≡◌, refl, List, [], ◌∷◌, ◌++◌, map, ℕ, replicate}
 use Rattle.wire.specs.Xor.{xor_all}
 use Rattle.packet_rules.specs.Judge.{refusal_of, arguments_of}
 use Rattle.state.specs.Settings.{settings_ok}

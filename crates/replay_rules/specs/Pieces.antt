@@ -247,7 +247,7 @@ chain_room c s a room (x ∷ xs) most l r e = split ((chain c s a room (x ∷ xs
     let whole : events_of (records_of (a ++ more)) ≡ take p.count (events_of (records_of a)) ++ events_of (records_of (drop p.read a ++ more)) = rw h.read_is (events_then_rest a more p.count h.few) in
     let fewer : length (events_of (records_of (drop p.read a ++ more))) ≤ length (events_of (records_of (a ++ more))) = omega (arith, ap length whole, length-append (take p.count (events_of (records_of a))) (events_of (records_of (drop p.read a ++ more)))) in
     chain_room c p.run (drop p.read a ++ x.more) x.room xs most (rw same (omega arith)) e.0 e.1)
-    (λ k q. omega (arith, rw (chain_idles c s k a room (x ∷ xs)).0 at q))
+    (λ k q. let idled = ap (λ (p : Piece). p.stop) (chain_idles c s k a room (x ∷ xs)).0 in omega (arith, sym idled ∙ q))
 
 -- where neither the last call nor one call on all the bytes stops for room, they come to the same and write the same
 pub as_one_call : (c : Config) (s : Run) (a : List ℕ) (room : ℕ) (xs : List Turn) (ample : ℕ) → Bytes (a ++ all_more xs)

@@ -1,7 +1,7 @@
 -- Records over bytes that come in pieces: a whole record stays what it is where more bytes follow, and behind the first records
 -- stand those of the bytes behind them.
-use Rattle.std.specs.Prelude.{◌≡◌, refl, Bool, true, false, cond, ◌⊎◌, List, [], ◌∷◌, ◌++◌, map, ℕ, zero, suc, ◌+◌, ◌-◌, ◌*◌, ◌<◌, ◌≤◌, eqb, leb, length, get_or, take, drop}
-use Rattle.std.proofs.Common.{sym, ap, ◌∙◌, inl, inr, ⊎_elim, append-nil, add-zero, add_assoc, suc-add, zero-add, arith, length-append, length-drop, take-append-drop, get_or-drop, drop-drop, le-leb, leb-true, leb-false}
+use Rattle.std.specs.Prelude.{◌≡◌, refl, Bool, true, false, cond, ◌⊎◌, List, [], ◌∷◌, ◌++◌, map, ℕ, zero, suc, ◌+◌, ◌-◌, ◌<◌, ◌≤◌, eqb, leb, length, get_or, take, drop}
+use Rattle.std.proofs.Common.{ap, ◌∙◌, inl, inr, ⊎_elim, append-nil, add-zero, add_assoc, suc-add, zero-add, arith, length-append, length-drop, take-append-drop, get_or-drop, drop-drop, le-leb, leb-true, leb-false}
 use Rattle.std.proofs.lemmas.List.{append_cancel_left, take-append-le, drop-append-le}
 use Rattle.std.proofs.Math.ListN.{get_or-append}
 use Rattle.std.proofs.Math.Seq.{take-length, take-append_seam}
@@ -9,7 +9,7 @@ use Rattle.std.proofs.lemmas.Bool.{lt-leb}
 use Rattle.image_rules.specs.Records.{le16, Record, cut, record_at, and_then, records_from, records_of}
 use Rattle.image_rules.specs.RecordLaws.{Whole, body_at, whole_at, body_ends, cut_head, cut_body, one_from, none_from}
 use Rattle.history.specs.Plain.{Event, packet, tick, fault}
-use Rattle.history.specs.Path.{step, after}
+use Rattle.history.specs.Path.{after}
 use Rattle.history.specs.Calls.{EventBytes, step_keeps}
 use Rattle.wire.specs.Bytes.{Bytes, part_bytes}
 use Rattle.state.specs.declared.types.Config.{Config}
@@ -256,7 +256,7 @@ events_stay a b =
     let es = events_of (records_of a) in
     rw (events_then_rest a b (length es) (omega arith), take-length es) (take-append_seam es _)
 
-bad_from : (g : ℕ) {a : List ℕ} (b : List ℕ) {p : ℕ} {rs : List Record} → Reads a p rs → length (a ++ b) ≤ g + p → (first_refusal rs ≡ 0 → ⊥) → (first_refusal rs ≡ cut_short → ⊥)
+bad_from : {a : List ℕ} (g : ℕ) (b : List ℕ) {p : ℕ} {rs : List Record} → Reads a p rs → length (a ++ b) ≤ g + p → (first_refusal rs ≡ 0 → ⊥) → (first_refusal rs ≡ cut_short → ⊥)
     → (events_of (records_from g (a ++ b) p) ≡ events_of rs) × (first_refusal (records_from g (a ++ b) p) ≡ first_refusal rs)
 bad_from g b (event w t h) e m n =
     let ih = bad_from (g - 1) b h (omega (arith, w.end_is)) (rw t at m) (rw t at n) in

@@ -1,6 +1,6 @@
 -- A recording of events in bytes, and the replies to it in bytes: which event a record is, what stops the reading, and how the
 -- replies stand in the output.
-use Rattle.std.specs.Prelude.{Bool, true, false, cond, ◌&&◌, List, [], ◌∷◌, ◌++◌, ℕ, ◌+◌, ◌-◌, ◌/◌, ◌%◌, eqb, leb, length}
+use Rattle.std.specs.Prelude.{Bool, true, cond, ◌&&◌, List, [], ◌∷◌, ◌++◌, ℕ, ◌+◌, ◌-◌, ◌/◌, ◌%◌, eqb, leb, length}
 use Rattle.image_rules.specs.Records.{le16, Record}
 use Rattle.wire.specs.Check.{check}
 use Rattle.history.specs.Plain.{Event, packet, tick, fault, Reply}

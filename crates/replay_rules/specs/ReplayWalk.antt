@@ -1,6 +1,6 @@
 -- What the loop of a replay keeps true, and its laws: it holds at the start, an answered event keeps it, and each way out is the
 -- piece that the definitions ask for.
-use Rattle.std.specs.Prelude.{◌≡◌, refl, Bool, true, false, cond, List, [], ◌∷◌, ◌++◌, ℕ, ◌+◌, ◌-◌, ◌<◌, ◌≤◌, eqb, ltb, length, take, drop}
+use Rattle.std.specs.Prelude.{◌≡◌, refl, true, List, [], ◌∷◌, ◌++◌, ℕ, ◌+◌, ◌-◌, ◌<◌, ◌≤◌, length, take, drop}
 use Rattle.std.proofs.Common.{sym, ap, subst, ◌∙◌, append_assoc, append-nil, zero-add, add-zero, arith, length-append, length-drop, eq-eqb, ne_eqb, le-leb, lt-ltb}
 use Rattle.std.proofs.Math.Path.{subst⁻¹}
 use Rattle.std.proofs.Math.Nat.{sub-zero}
@@ -19,7 +19,7 @@ use Rattle.history.specs.Plain.{Event, Reply}
 use Rattle.history.specs.Path.{step, bytes_for, reply_of, after}
 use Rattle.history.specs.Calls.{EventBytes, step_keeps}
 use Rattle.replay_rules.specs.declared.types.Piece.{Piece}
-use Rattle.replay_rules.specs.Recording.{cut_short, output_full, event_in, event_refusal, kind_refusal, events_of, first_refusal, bytes_in, head_bytes, reply_bytes, all_bytes, fitting, event_room, head_size}
+use Rattle.replay_rules.specs.Recording.{cut_short, output_full, event_in, event_refusal, kind_refusal, events_of, bytes_in, head_bytes, reply_bytes, all_bytes, event_room, head_size}
 use Rattle.replay_rules.specs.Replay.{stop_of, answered, path_replies, piece, stopped_at}
 use Rattle.replay_rules.specs.OutputLaws.{back_as, part_from, part_is, reply_put, answer_put}
 use Rattle.replay_rules.specs.PathLaws.{written_is}

@@ -6,7 +6,7 @@ use state::types::{Counts, Run, Standing, run_of};
 
 // What a piece of a recording came to, and the run that it left.
 #[repr(C)]
-#[derive(Drop)]
+#[derive(Clone, Copy)]
 pub struct Piece {
     pub run: Run,
     // 0 all of it was read; 60, 61 or 62 the first bad record; 63 the output is full; 20 the state breaks its rules
@@ -18,7 +18,7 @@ pub struct Piece {
 }
 
 // The same where the fault states are lent: they are left where they stand.
-#[derive(Drop)]
+#[derive(Clone, Copy)]
 pub struct Reached {
     pub standing: Standing,
     pub stop: u8,
@@ -29,7 +29,7 @@ pub struct Reached {
 
 // What a recording under an image came to.
 #[repr(C)]
-#[derive(Drop)]
+#[derive(Clone, Copy)]
 pub struct Replayed {
     // the load's answer and offset
     pub load: u8,

@@ -3,7 +3,7 @@ ghost use Rattle.std.specs.Prelude.{◌≡◌};
 ghost use Rattle.step_answers.specs.Own.{own_command, selection_of, fault_arg};
 
 // The eight own commands.
-#[derive(Drop)]
+#[derive(Clone, Copy)]
 pub enum Own {
     Arm,
     ResetCounters,
@@ -16,7 +16,7 @@ pub enum Own {
 }
 
 // What an id selects: an own command and the argument bytes that it takes, or none.
-#[derive(Drop)]
+#[derive(Clone, Copy)]
 pub enum Selection {
     Command(Own, usize),
     Nothing,

@@ -1,5 +1,5 @@
 -- Document 01, "Arming": what an accepted packet and a tick do to the arm record.
-use Rattle.std.specs.Prelude.{Bool, true, false, cond, not, ◌&&◌, List, ℕ, ◌-◌, eqb, get_or}
+use Rattle.std.specs.Prelude.{Bool, true, cond, not, ◌&&◌, List, ℕ, ◌-◌, eqb, get_or}
 use Rattle.state.specs.declared.types.Arm.{Arm}
 pub use Rattle.state.specs.Tables.{unarmed}
 use Rattle.step_arm.specs.declared.Ticked.{Ticked}

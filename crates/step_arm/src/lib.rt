@@ -1,19 +1,22 @@
 // The arm record. What an accepted packet and a tick make of it is worked out by value (`set_by`, `tick_by`); the record that is
 // kept changes in `on_packet` and `on_tick` only, to which it is lent. `packet_of` and `tick_of` lend a record that was passed by
 // value, so that whoever calls them lends no struct.
+#![tactic(auto)]
+
 ghost use Rattle.std.specs.Prelude.{◌≡◌};
 ghost use Rattle.step_arm.specs.Arming.{arm_set, arm_after, ticked_by};
 
 use state::types::Arm;
 
 // What a tick makes of the record, and its answer: 15 where the tick ends the armed state, else 14.
-#[derive(Drop)]
+#[derive(Clone, Copy)]
 pub struct Ticked {
     pub arm: Arm,
     pub answer: u8,
 }
 
 // After an accepted packet with the answer n: armed for the ticks by an arm that was taken, else unarmed.
+#[tactic(auto, unfolding(crate::specs::Arming::arm_set))]
 fn set_by(n: u8, ticks: u16) -> Arm
     ensures { result ≡ arm_set n ticks }
 {
@@ -30,6 +33,7 @@ fn set_by(n: u8, ticks: u16) -> Arm
 }
 
 // After a tick: unarmed and a timeout of 0 stay as they are, the last tick unarms, any other takes one.
+#[tactic(auto, unfolding(crate::specs::Arming::ticked, crate::specs::Arming::tick_answer))]
 fn tick_by(arm: Arm) -> Ticked
     ensures { result ≡ ticked_by arm }
 {
@@ -102,6 +106,7 @@ pub fn tick_of(arm: Arm) -> Ticked
 }
 
 // After an accepted packet with the answer n and these argument bytes: the first of them is the timeout.
+#[tactic(auto, unfolding(crate::specs::Arming::arm_after))]
 pub fn after_packet(arm: Arm, n: u8, args: &[u8]) -> Arm
     ensures { result ≡ arm_after n args.now }
 {

@@ -1,5 +1,5 @@
 -- Laws of the dispatch writer: a head and then the arguments put into the output, and the two cases of an answer.
-use Rattle.std.specs.Prelude.{◌≡◌, ℕ, ◌+◌, List, ◌++◌, length, ◌≢◌}
+use Rattle.std.specs.Prelude.{◌≡◌, ℕ, List, ◌++◌, length, ◌≢◌}
 use Rattle.std.proofs.Common.{eq-eqb, ne_eqb}
 use Rattle.wire.specs.Put.{put_at}
 use Rattle.wire.specs.PutLaws.{put_first, put_behind}

@@ -35,6 +35,7 @@ pub fn next(s: u8, e: u8) -> u8
 
 // The state of a row after an event: one that doesn't latch stays as it is at a fault.
 // internal: as `next`.
+#[tactic(auto, unfolding(crate::specs::FaultStates::row_after))]
 pub fn row_after(latching: u8, s: u8, e: u8) -> u8
     requires { (s < 3) × (e < 4) }
     ensures { result ≡ row_after latching s e }

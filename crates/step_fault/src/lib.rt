@@ -1,4 +1,6 @@
 // The fault step of a state that keeps its rules.
+#![tactic(auto)]
+
 ghost use Rattle.std.specs.Prelude.{◌≡◌, List, ℕ, ◌+◌, ◌*◌, ◌≤◌, ◌<◌, length, take, drop};
 ghost use Rattle.step_effects.specs.Dispatch.{step_room, Wrote};
 ghost use Rattle.state.specs.Tables.{config_from};

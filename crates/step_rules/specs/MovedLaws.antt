@@ -1,5 +1,5 @@
 -- Laws of what a packet step hands back: each way of an own command, and each way of a packet.
-use Rattle.std.specs.Prelude.{◌≡◌, refl, Bool, false, cond, not, ◌&&◌, ◌||◌, ◌⊎◌, List, map, ℕ, ◌+◌, ◌-◌, ◌<◌, ◌≤◌, eqb, length, get_or, set, take}
+use Rattle.std.specs.Prelude.{◌≡◌, refl, Bool, false, cond, not, ◌&&◌, ◌||◌, ◌⊎◌, List, map, ℕ, ◌+◌, ◌<◌, ◌≤◌, eqb, length, get_or, set, take}
 use Rattle.std.proofs.Math.Path.{sym}
 use Rattle.std.proofs.Common.{ap, ◌∙◌, inl, inr, arith, eq-eqb, ne_eqb, eqb-true}
 use Rattle.std.proofs.Math.Bool.{true}
@@ -30,13 +30,13 @@ use Rattle.step_answers.specs.Own.{rule_of, own_command, is_reset, fault_arg}
 use Rattle.step_answers.specs.Answers.{blocked, own_answer, route_answer, answer_for}
 use Rattle.step_answers.specs.OwnLaws.{done_is, resets_12, own_31, own_32, own_row, own_taken, own_not_10}
 use Rattle.step_answers.specs.AnswerLaws.{answer_30, answer_own, answer_route, Lent, route_none, route_found, route_dest}
-use Rattle.step_rules.specs.Step.{states_after, accepted_step, rejected_step, packet_step, packet_output}
+use Rattle.step_rules.specs.Step.{states_after, rejected_step, packet_output}
 use Rattle.step_rules.specs.StateLaws.{done_on, states_long, states_same, states_12, states_done}
 use Rattle.step_rules.specs.StepLaws.{accepted_is, packet_rejected, packet_accepted, packet_unsent}
 use Rattle.step_rules.specs.Packets.{refusal_under, outcome_under, rejects_under}
 use Rattle.step_rules.specs.Makers.{dispatched_answer, moved_from, decision_from}
 use Rattle.step_rules.specs.Found.{ids_are}
-use Rattle.step_rules.specs.Moved.{moved_by, quietly, rejected_by, OwnMoves, RowMoves, left_by_move, PacketDecided, PacketMoves}
+use Rattle.step_rules.specs.Moved.{moved_by, quietly, rejected_by, OwnMoves, RowMoves, PacketDecided, PacketMoves}
 
 -- ---- an answer that sends nothing on
 

@@ -1,6 +1,6 @@
 -- For callers of the inner steps: a state that keeps its rules may lend its arrays, and what comes back, with the counters that the
 -- caller works out beside it, is the step of that state. The premises are the calls' contracts, in their order.
-use Rattle.std.specs.Prelude.{◌≡◌, List, ℕ, length}
+use Rattle.std.specs.Prelude.{◌≡◌, List, ℕ}
 use Rattle.std.proofs.Common.{arith}
 use Rattle.state.specs.declared.types.Config.{Config}
 use Rattle.state.specs.declared.types.Counts.{Counts}
@@ -18,7 +18,7 @@ use Rattle.step_rules.specs.declared.types.Answer.{Answer}
 use Rattle.step_rules.specs.declared.types.Moved.{Moved}
 use Rattle.step_rules.specs.Makers.{bare_answer, step_from}
 use Rattle.step_rules.specs.Found.{responds}
-use Rattle.step_rules.specs.Step.{packet_step, tick_step, fault_step, fault_output}
+use Rattle.step_rules.specs.Step.{packet_step, tick_step, fault_step}
 use Rattle.step_rules.specs.Moved.{StatesLent, PacketMoves, RowsLent, FaultMoves}
 
 -- a packet, on any standing with the arm record that was handed in

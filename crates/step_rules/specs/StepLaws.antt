@@ -1,5 +1,5 @@
 -- Laws of the three steps: the parts that make one up, and each way on any state.
-use Rattle.std.specs.Prelude.{◌≡◌, refl, true, false, List, map, ℕ, ◌+◌, ◌<◌, ◌≤◌, eqb, length}
+use Rattle.std.specs.Prelude.{◌≡◌, true, false, List, map, ℕ, ◌+◌, ◌<◌, ◌≤◌, eqb, length}
 use Rattle.std.proofs.Common.{ap, ne_eqb, le-leb}
 use Rattle.std.proofs.Math.Option.{Option}
 use Rattle.std.proofs.lemmas.Bool.{lt-leb}
@@ -9,7 +9,7 @@ use Rattle.state.specs.declared.types.Config.{Config}
 use Rattle.state.specs.declared.types.Run.{Run}
 use Rattle.state.specs.declared.types.Arm.{Arm}
 use Rattle.state.specs.declared.types.Counts.{Counts}
-use Rattle.state.specs.Tables.{Tables, fault_id, routed, tables_of, with_arm, with_counts, run_from}
+use Rattle.state.specs.Tables.{Tables, fault_id, routed, with_arm, with_counts, run_from}
 use Rattle.state.specs.Test.{keeps_rules}
 use Rattle.step_rules.specs.declared.types.Stepped.{Stepped}
 use Rattle.step_rules.specs.Packets.{refusal_under}

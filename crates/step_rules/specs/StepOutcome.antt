@@ -1,7 +1,7 @@
 -- The answers read as statements: what each answer to an accepted packet, to a fault and to any step says, in both directions.
-use Rattle.std.specs.Prelude.{◌≡◌, Bool, true, false, ◌⊎◌, List, map, ℕ, ◌<◌, ◌≤◌, eqb, leb, ltb, length, get_or}
+use Rattle.std.specs.Prelude.{◌≡◌, Bool, true, false, ◌⊎◌, List, map, ℕ, ◌<◌, ◌≤◌, eqb, leb, length, get_or}
 use Rattle.std.proofs.Math.Path.{refl, sym}
-use Rattle.std.proofs.Common.{ap, ◌∙◌, inl, inr, eqb-true, ltb-true, ltb-false, leb-true, leb-false}
+use Rattle.std.proofs.Common.{ap, ◌∙◌, inl, inr, eqb-true, leb-true, leb-false}
 use Rattle.std.proofs.Math.Option.{Option, none, some}
 use Rattle.std.proofs.lemmas.Bool.{eqb-false}
 use Rattle.packet_rules.specs.Layout.{command_id}

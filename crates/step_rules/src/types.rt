@@ -6,7 +6,7 @@ use state::types::{Arm, Run, Standing, run_of};
 
 // The four numbers of an answer: the answer, the command id, the destination and the bytes written.
 #[repr(C)]
-#[derive(Drop)]
+#[derive(Clone, Copy)]
 pub struct Answer {
     pub answer: u8,
     pub id: u16,
@@ -16,7 +16,7 @@ pub struct Answer {
 
 // The answer, and what the step left of the run.
 #[repr(C)]
-#[derive(Drop)]
+#[derive(Clone, Copy)]
 pub struct Stepped {
     pub run: Run,
     pub answer: Answer,
@@ -24,7 +24,7 @@ pub struct Stepped {
 
 // What a packet step hands back to which the fault states are lent: the arm record that it leaves, whether it was a reset, and
 // the answer. The counters are for the caller.
-#[derive(Drop)]
+#[derive(Clone, Copy)]
 pub struct Moved {
     pub arm: Arm,
     pub reset: bool,
@@ -32,21 +32,21 @@ pub struct Moved {
 }
 
 // What a packet comes to before anything is sent on: what the step hands back, and whether its command is to be sent on.
-#[derive(Drop)]
+#[derive(Clone, Copy)]
 pub struct Decision {
     pub moved: Moved,
     pub sends: bool,
 }
 
 // What a fault comes to before anything is sent on: the answer, and for 10 the place of the row whose response is to be sent.
-#[derive(Drop)]
+#[derive(Clone, Copy)]
 pub struct Responding {
     pub answer: Answer,
     pub row: usize,
 }
 
 // What a step on any state leaves, where the fault states are lent and left where they stand.
-#[derive(Drop)]
+#[derive(Clone, Copy)]
 pub struct Left {
     pub standing: Standing,
     pub answer: Answer,
