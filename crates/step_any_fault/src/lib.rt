@@ -1,4 +1,6 @@
 // The fault step on any state. `inner_fault` is the step of a state that keeps its rules.
+#![tactic(auto)]
+
 ghost use Rattle.std.specs.Prelude.{◌≡◌, length};
 ghost use Rattle.state.specs.Tables.{tables_of, config_from, run_from};
 ghost use Rattle.step_rules.specs.Step.{fault_output, fault_step_of};

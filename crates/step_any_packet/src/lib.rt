@@ -1,4 +1,6 @@
 // The packet step on any state. `inner_packet` is the step of a state that keeps its rules.
+#![tactic(auto)]
+
 ghost use Rattle.std.specs.Prelude.{◌≡◌, length};
 ghost use Rattle.state.specs.Tables.{tables_of, config_from, run_from};
 ghost use Rattle.step_rules.specs.Step.{packet_output, packet_step_of};

@@ -1,4 +1,6 @@
 // The tick step on any state.
+#![tactic(auto)]
+
 ghost use Rattle.std.specs.Prelude.{◌≡◌};
 ghost use Rattle.state.specs.Tables.{config_from, run_from};
 ghost use Rattle.step_rules.specs.Step.{tick_step_of};

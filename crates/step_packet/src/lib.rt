@@ -1,5 +1,7 @@
 // The packet step of a state that keeps its rules. The columns that it looks at are lent, and so are the fault states, which
 // change where they stand; the counters are for the caller. Every way out of what is decided returns by itself.
+#![tactic(auto)]
+
 ghost use Rattle.std.specs.Prelude.{List, ℕ, ◌≤◌, ◌<◌, length, take, ◌≡◌};
 ghost use Rattle.state.specs.Tables.{config_from};
 ghost use Rattle.state.specs.Lookup.{Column};
