@@ -1,6 +1,6 @@
 -- Laws of the C boundary: a bool as a number, the argument part, and each call for an armed number that is told and for one
 -- that is not.
-use Rattle.std.specs.Prelude.{◌≡◌, Bool, true, false, cond, List, [], ℕ, ◌<◌, ◌≤◌, length}
+use Rattle.std.specs.Prelude.{◌≡◌, Bool, true, false, cond, List, ℕ, ◌<◌, ◌≤◌, length}
 use Rattle.std.proofs.Math.Path.{refl}
 use Rattle.std.proofs.Common.{ap, eq-eqb, ne_eqb, le-leb}
 use mir.Val.{bool_byte}

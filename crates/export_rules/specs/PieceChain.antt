@@ -6,7 +6,6 @@ use Rattle.std.proofs.Common.{sym, ap, subst, ◌∙◌}
 use Rattle.state.specs.declared.types.Config.{Config}
 use Rattle.state.specs.declared.types.Run.{Run}
 use Rattle.wire.specs.Bytes.{Bytes}
-use Rattle.replay_rules.specs.declared.types.Piece.{Piece}
 use Rattle.image_rules.specs.Records.{records_of}
 use Rattle.image_load.specs.Image.{load_of}
 use Rattle.history.specs.Plain.{replies, latest_first}
