@@ -7,15 +7,17 @@ use Rattle.state.specs.Tables.{run_from}
 use Rattle.wire.specs.Bytes.{part_bytes}
 use Rattle.image_rules.specs.RecordLaws.{Whole, body_at}
 use Rattle.step_effects.specs.Dispatch.{step_room}
-use Rattle.step_rules.specs.Found.{lend}
-use Rattle.step_rules.specs.MovedOn.{packet_moved, tick_moved, lend_states, lend_rows, fault_moved}
+use Rattle.step_rules.proofs.Found.{lend}
+use Rattle.step_rules.proofs.MovedOn.{packet_moved, tick_moved, lend_states, lend_rows, fault_moved}
 use Rattle.history.specs.Plain.{packet, tick, fault}
 use Rattle.replay_rules.specs.declared.types.Reached.{Reached}
-use Rattle.replay_rules.specs.RecordingLaws.{is_packet, is_tick, long_tick, only, fault_sized, packet_event, tick_event, fault_event}
+use Rattle.replay_rules.specs.RecordingLaws.{is_packet, is_tick, long_tick}
+use Rattle.replay_rules.proofs.RecordingLaws.{only, fault_sized, packet_event, tick_event, fault_event}
 use Rattle.replay_rules.specs.Recording.{output_full, kind_refusal, event_room, head_size}
-use Rattle.replay_rules.specs.PathLaws.{packet_over, fault_over}
-use Rattle.replay_rules.specs.OutputLaws.{part_from, part_is}
-use Rattle.replay_rules.specs.ReplayWalk.{Told, Going, start, same, ends, cuts, found, refuses, cramped, goes_on, goes_on_silent}
+use Rattle.history.proofs.Outputs.{packet_over, fault_over}
+use Rattle.replay_rules.specs.OutputLaws.{part_from}
+use Rattle.replay_rules.proofs.OutputLaws.{part_is}
+use Rattle.replay_rules.proofs.ReplayWalk.{Told, Going, start, same, ends, cuts, found, refuses, cramped, goes_on, goes_on_silent}
 use Rattle.replay_rules.specs.Replay.{stopped_at, piece_left, Replays, reached_at}
 use Rattle.replay_walk.proofs.inner_replay.Goals as goal
 

@@ -1,7 +1,7 @@
 -- `inner_replay`: `Going`, and the fault states as long as they were; the measure is what is left of the recording.
 use Rattle.std.proofs.Common.{◌≡◌, ◌-◌, length}
 use Rattle.state.specs.Tables.{config_from, run_from}
-use Rattle.replay_rules.specs.ReplayWalk.{Going}
+use Rattle.replay_rules.proofs.ReplayWalk.{Going}
 use Rattle.replay_walk.proofs.inner_replay.Given as goal
 
 abbrev pub invariant-loop-read : goal.invariant-loop-read

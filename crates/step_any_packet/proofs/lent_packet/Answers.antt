@@ -1,9 +1,9 @@
 -- `lent_packet`: a state that breaks its rules, too little room, or the inner step.
 use Rattle.std.proofs.Common.{sym, ◌∙◌}
 use Rattle.state.specs.KeepsLaws.{keeps}
-use Rattle.step_rules.specs.Found.{lend}
-use Rattle.step_rules.specs.MovedOn.{lend_states}
-use Rattle.step_rules.specs.LentSteps.{packet_breaks, packet_cramped, packet_leaves}
+use Rattle.step_rules.proofs.Found.{lend}
+use Rattle.step_rules.proofs.MovedOn.{lend_states}
+use Rattle.step_rules.proofs.LentSteps.{packet_breaks, packet_cramped, packet_leaves}
 use Rattle.step_any_packet.proofs.lent_packet.Goals as goal
 
 pub returns-then-not-lent_keeps : goal.returns-then-not-lent_keeps

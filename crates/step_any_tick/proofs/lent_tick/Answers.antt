@@ -1,7 +1,7 @@
 -- `lent_tick`: a state that breaks its rules, or the tick.
 use Rattle.std.proofs.Common.{sym, ◌∙◌}
 use Rattle.state.specs.Tables.{run_from}
-use Rattle.step_rules.specs.LentSteps.{tick_breaks, tick_leaves}
+use Rattle.step_rules.proofs.LentSteps.{tick_breaks, tick_leaves}
 use Rattle.step_any_tick.proofs.lent_tick.Goals as goal
 
 pub returns-then-not-lent_keeps : goal.returns-then-not-lent_keeps
