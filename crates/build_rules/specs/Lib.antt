@@ -3,4 +3,3 @@ pub mod BuildLaws
 pub mod BuildOutcome
 pub mod Building
 pub mod Form
-pub mod Inverse

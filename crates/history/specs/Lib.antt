@@ -9,4 +9,3 @@ pub mod Calls
 pub mod Outputs
 pub mod ArmRule
 pub mod Wrap
-pub mod ShutOut

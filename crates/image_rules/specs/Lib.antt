@@ -1,15 +1,9 @@
 pub mod Records
 pub mod Written
 pub mod Kinds
-pub mod KindRules
 pub mod Checks
 pub mod RecordOutcome
-pub mod RecordOutcomeLaws
 pub mod RecordLaws
 pub mod RecordParts
-pub mod RecordPartLaws
 pub mod Good
 pub mod GoodLaws
-pub mod GoodEach
-pub mod GoodImage
-pub mod Zero

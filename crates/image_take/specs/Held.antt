@@ -12,10 +12,10 @@ use Rattle.state.specs.ArrayLaws.{padded_length, padded_take, padded_more, array
 use Rattle.image_rules.specs.Records.{le16, Record}
 use Rattle.image_rules.specs.Written.{start_in, tables_of_records, starts_of_records}
 use Rattle.image_rules.specs.Kinds.{is_single, kind_of, ids_in}
-use Rattle.image_rules.specs.KindRules.{route_3, protected_2, row_7}
-use Rattle.image_rules.specs.RecordLaws.{not_rows, more, starts_more, starts_count, route_ids, protected_ids, fault_ids}
+use Rattle.image_rules.proofs.KindRules.{route_3, protected_2, row_7}
+use Rattle.image_rules.proofs.RecordLaws.{not_rows, more, starts_more, starts_count, route_ids, protected_ids, fault_ids}
 use Rattle.image_rules.specs.RecordOutcome.{GoodAfter, AllGood}
-use Rattle.image_rules.specs.GoodLaws.{all_listed, all_few, all_good_more}
+use Rattle.image_rules.proofs.GoodLaws.{all_listed, all_few, all_good_more}
 use Rattle.image_take.specs.Stored.{with_numbers, numbers_behind, Countable, put_route, put_protected, put_row, stored_one, stored_2, stored_3, stored_4}
 
 pub record Held (rs : List Record) (c : Config) (states : List ℕ) : Type 0 where

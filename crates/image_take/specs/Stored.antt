@@ -12,7 +12,7 @@ use Rattle.image_rules.specs.Records.{le16}
 use Rattle.image_rules.specs.Written.{route_in, row_in}
 use Rattle.image_rules.specs.Written.{settings_with, plus}
 use Rattle.image_rules.specs.Kinds.{is_single, sized, kind_of}
-use Rattle.image_rules.specs.RecordLaws.{not_rows}
+use Rattle.image_rules.proofs.RecordLaws.{not_rows}
 
 -- ---- a configuration with the columns that a kind is lent, and the others of c
 

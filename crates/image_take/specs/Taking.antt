@@ -11,7 +11,7 @@ use Rattle.image_rules.specs.Written.{tables_of_records}
 use Rattle.image_rules.specs.Checks.{refusal_after, record_refusal, last_kind}
 use Rattle.image_rules.specs.Kinds.{is_single, last_of_kinds, kind_of, ids_in}
 use Rattle.image_rules.specs.RecordOutcome.{GoodAfter, no_kind, past_kinds}
-use Rattle.image_rules.specs.RecordOutcomeLaws.{verdict_only, zero_good}
+use Rattle.image_rules.proofs.RecordOutcomeLaws.{verdict_only, zero_good}
 use Rattle.image_rules.specs.RecordParts.{Holds}
 use Rattle.image_take.specs.Stored.{with_numbers, numbers_behind}
 use Rattle.image_take.specs.Held.{Held, settings_are, held_one, routes_are, held_routes, held_protected, held_faults}

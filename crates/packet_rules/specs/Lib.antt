@@ -1,6 +1,5 @@
 pub mod HeaderBytes
 pub mod Judge
-pub mod JudgeLaws
 pub mod Layout
 pub mod JudgeOutcome
 pub mod PacketParts

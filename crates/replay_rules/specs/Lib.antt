@@ -1,10 +1,7 @@
 pub mod Recording
 pub mod RecordingLaws
 pub mod OutputLaws
-pub mod PathLaws
 pub mod Replay
-pub mod ReplayWalk
-pub mod ReplayLaws
 pub mod ReplayTheorems
 pub mod RecordPieces
 pub mod Pieces

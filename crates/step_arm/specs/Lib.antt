@@ -1,2 +1,1 @@
 pub mod Arming
-pub mod ArmingLaws

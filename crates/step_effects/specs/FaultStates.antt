@@ -1,6 +1,6 @@
 -- Document 01, "Own commands": the response state of a fault row, by state and event; which row a fault id means, by its place,
 -- and what an event on the row at a place makes of the states.
-use Rattle.std.specs.Prelude.{◌≡◌, ℕ, Bool, true, false, cond, ◌&&◌, List, [], ◌∷◌, map, length, ◌==◌, nat_lt, slice_index_or, slice_set, refl}
+use Rattle.std.specs.Prelude.{ℕ, Bool, true, false, cond, ◌&&◌, List, [], map, length, ◌==◌, nat_lt, slice_index_or, slice_set}
 use Rattle.std.proofs.Math.Option.{Option, none, some}
 use Rattle.state.specs.Tables.{FaultRow, Tables, fault_id}
 use Rattle.state.specs.Lookup.{place_in}
@@ -36,15 +36,6 @@ next_state s e =
     (cond (e == disable) disabled
     (cond (e == clear) (cond (s == disabled) disabled enabled)
     (cond (s == disabled) disabled latched)))
-
--- the paper's table, row by row
-paper_table :
-    map (λ s. map (next_state s) (enable ∷ disable ∷ clear ∷ fault ∷ [])) (disabled ∷ enabled ∷ latched ∷ [])
-    ≡ (enabled ∷ disabled ∷ disabled ∷ disabled ∷ [])
-    ∷ (enabled ∷ disabled ∷ enabled ∷ latched ∷ [])
-    ∷ (latched ∷ disabled ∷ enabled ∷ latched ∷ [])
-    ∷ []
-paper_table = refl
 
 -- a row that doesn't latch stays as it is at a fault
 unfoldable pub row_after : ℕ → ℕ → ℕ → ℕ

@@ -2,17 +2,9 @@ pub mod Makers
 pub mod Packets
 pub mod Step
 pub mod StateLaws
-pub mod StepLaws
-pub mod Found
-pub mod FaultStepLaws
 pub mod StepOutcome
-pub mod Demand1
 pub mod RulesKept
 pub mod Demand2
-pub mod Excluded
 pub mod RowCommands
 pub mod Moved
-pub mod MovedLaws
-pub mod MovedOn
-pub mod FaultMovedLaws
 pub mod LentSteps

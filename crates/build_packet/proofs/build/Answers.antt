@@ -1,7 +1,7 @@
 -- `build`: each return is one line of the table of outcomes.
 use Rattle.std.proofs.Common.{arith, rules}
 use Rattle.build_rules.specs.BuildOutcome.{high_apid, high_count, many_args, many_pads, small_output}
-use Rattle.build_rules.specs.BuildLaws.{build_refused, build_written}
+use Rattle.build_rules.proofs.BuildLaws.{build_refused, build_written}
 use Rattle.build_packet.proofs.build.Goals as goal
 
 pub returns-then-apid-gt2047 : goal.returns-then-apid-gt2047

@@ -1,6 +1,6 @@
 -- `fill`: four puts, each right behind the one before.
 use Rattle.build_rules.specs.Build.{given}
-use Rattle.build_rules.specs.BuildLaws.{filled}
+use Rattle.build_rules.proofs.BuildLaws.{filled}
 use Rattle.build_packet.proofs.fill.Goals as goal
 
 pub returns : goal.returns

@@ -1,7 +1,7 @@
 -- `write`: the XOR of what was filled goes into the place of its zero.
 use Rattle.std.proofs.Common.{refl}
 use Rattle.build_rules.specs.Build.{given}
-use Rattle.build_rules.specs.BuildLaws.{summed}
+use Rattle.build_rules.proofs.BuildLaws.{summed}
 use Rattle.build_packet.proofs.write.Goals as goal
 
 pub returns : goal.returns

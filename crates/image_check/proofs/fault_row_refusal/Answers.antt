@@ -2,9 +2,9 @@
 use Rattle.std.proofs.Common.{◌≡◌, ◌≤◌, true, false, ℕ, List, length, refl, ◌∙◌, arith}
 use Rattle.state.specs.Tables.{Tables, empty}
 use Rattle.image_rules.specs.Kinds.{row_sized, fault_row}
-use Rattle.image_rules.specs.KindRules.{row_7}
+use Rattle.image_rules.proofs.KindRules.{row_7}
 use Rattle.image_rules.specs.Checks.{refusal_by, refusal_after}
-use Rattle.image_rules.specs.RecordPartLaws.{by_its_entry, missized, row_misplaced, row_judged}
+use Rattle.image_rules.proofs.RecordPartLaws.{by_its_entry, missized, row_misplaced, row_judged}
 use Rattle.image_check.proofs.fault_row_refusal.Goals as goal
 
 fourth : (last : ℕ) (ids : List ℕ) (t : Tables) (b : List ℕ) {r : ℕ} → r ≡ refusal_by fault_row last 4 ids t b → r ≡ refusal_after last ids t 4 b

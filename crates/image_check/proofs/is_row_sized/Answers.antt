@@ -1,6 +1,6 @@
 -- `is_row_sized`: one law for each way out.
 use Rattle.std.proofs.Common.{arith}
-use Rattle.image_rules.specs.RecordPartLaws.{row_short, row_long, row_fits}
+use Rattle.image_rules.proofs.RecordPartLaws.{row_short, row_long, row_fits}
 use Rattle.image_check.proofs.is_row_sized.Goals as goal
 
 pub returns-then-body-lt7 : goal.returns-then-body-lt7

@@ -3,7 +3,7 @@ use Rattle.std.proofs.Common.{◌≡◌, true, false, ◌∙◌}
 use borrow.Author.Tests.{ne_eqb}
 use Rattle.image_rules.specs.Kinds.{one}
 use Rattle.image_rules.specs.Checks.{is_in_order}
-use Rattle.image_rules.specs.RecordPartLaws.{by_one, missized, one_misplaced, one_judged}
+use Rattle.image_rules.proofs.RecordPartLaws.{by_one, missized, one_misplaced, one_judged}
 use Rattle.image_check.proofs.one_refusal.Goals as goal
 
 pub returns-then-body-size : goal.returns-then-body-size

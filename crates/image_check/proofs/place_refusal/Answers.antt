@@ -6,7 +6,7 @@ use borrow.Author.Tests.{lt-ltb, le-ltb}
 use Rattle.state.specs.Rules.{floor}
 use Rattle.image_rules.specs.Checks.{is_in_order}
 use Rattle.image_rules.specs.RecordOutcome.{goes_on, first_not_basics, falls}
-use Rattle.image_rules.specs.RecordOutcomeLaws.{order_is, order_is_not}
+use Rattle.image_rules.proofs.RecordOutcomeLaws.{order_is, order_is_not}
 use Rattle.image_rules.specs.RecordParts.{place_refusal}
 use Rattle.image_check.proofs.place_refusal.Goals as goal
 

@@ -4,7 +4,7 @@ use borrow.Author.Tests.{eq-eqb, ne_eqb}
 use Rattle.state.specs.Tables.{Tables}
 use Rattle.image_rules.specs.Kinds.{protected}
 use Rattle.image_rules.specs.Checks.{refusal_by, refusal_after}
-use Rattle.image_rules.specs.RecordPartLaws.{by_its_entry, missized, row_misplaced, row_judged}
+use Rattle.image_rules.proofs.RecordPartLaws.{by_its_entry, missized, row_misplaced, row_judged}
 use Rattle.image_check.proofs.protected_refusal.Goals as goal
 
 third : (last : ℕ) (ids : List ℕ) (t : Tables) (b : List ℕ) {r : ℕ} → r ≡ refusal_by protected last 3 ids t b → r ≡ refusal_after last ids t 3 b

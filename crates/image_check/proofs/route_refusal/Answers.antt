@@ -4,7 +4,7 @@ use borrow.Author.Tests.{eq-eqb, ne_eqb}
 use Rattle.state.specs.Tables.{Tables}
 use Rattle.image_rules.specs.Kinds.{route}
 use Rattle.image_rules.specs.Checks.{refusal_by, refusal_after}
-use Rattle.image_rules.specs.RecordPartLaws.{by_its_entry, missized, row_misplaced, row_judged}
+use Rattle.image_rules.proofs.RecordPartLaws.{by_its_entry, missized, row_misplaced, row_judged}
 use Rattle.image_check.proofs.route_refusal.Goals as goal
 
 second : (last : ℕ) (ids : List ℕ) (t : Tables) (b : List ℕ) {r : ℕ} → r ≡ refusal_by route last 2 ids t b → r ≡ refusal_after last ids t 2 b

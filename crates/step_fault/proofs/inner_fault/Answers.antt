@@ -1,6 +1,6 @@
 -- `inner_fault`: what was found, and the response written and its row latched where it is to be sent on.
 use Rattle.std.proofs.Common.{[], arith}
-use Rattle.step_rules.specs.FaultMovedLaws.{moves_unsent, moves_sent}
+use Rattle.step_rules.proofs.FaultMovedLaws.{moves_unsent, moves_sent}
 use Rattle.step_fault.proofs.inner_fault.Goals as goal
 
 pub returns-then-answer-ne10 : goal.returns-then-answer-ne10

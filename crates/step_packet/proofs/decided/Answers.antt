@@ -1,9 +1,9 @@
 -- `decided`: each way of a packet, by its law.
 use Rattle.std.proofs.Common.{◌≤◌, length, refl, sym, ◌∙◌, arith}
-use Rattle.packet_rules.specs.JudgeLaws.{accepts}
-use Rattle.packet_rules.specs.PacketParts.{arguments_few}
-use Rattle.step_answers.specs.OwnLaws.{command_is, nothing_is}
-use Rattle.step_rules.specs.MovedLaws.{decided_rejected, decided_30, decided_own, decided_33, decided_10}
+use Rattle.packet_rules.proofs.JudgeLaws.{accepts}
+use Rattle.packet_rules.proofs.PacketParts.{arguments_few}
+use Rattle.step_answers.proofs.OwnLaws.{command_is, nothing_is}
+use Rattle.step_rules.proofs.MovedLaws.{decided_rejected, decided_30, decided_own, decided_33, decided_10}
 use Rattle.step_packet.proofs.decided.Goals as goal
 
 pub returns-then-refusal-ne0 : goal.returns-then-refusal-ne0

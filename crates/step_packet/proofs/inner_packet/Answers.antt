@@ -1,8 +1,8 @@
 -- `inner_packet`: what was decided, and the command written where it is to be sent on.
 use Rattle.std.proofs.Common.{[], arith}
-use Rattle.packet_rules.specs.JudgeLaws.{accepts}
-use Rattle.packet_rules.specs.PacketParts.{arguments_few}
-use Rattle.step_rules.specs.MovedLaws.{moves_unsent, moves_sent}
+use Rattle.packet_rules.proofs.JudgeLaws.{accepts}
+use Rattle.packet_rules.proofs.PacketParts.{arguments_few}
+use Rattle.step_rules.proofs.MovedLaws.{moves_unsent, moves_sent}
 use Rattle.step_packet.proofs.inner_packet.Goals as goal
 
 -- it is to be sent on: the judge accepts it

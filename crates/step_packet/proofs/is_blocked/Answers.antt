@@ -1,6 +1,6 @@
 -- `is_blocked`: armed lets all past, else the id is looked up.
 use Rattle.std.proofs.Common.{refl, ◌∙◌}
-use Rattle.step_answers.specs.AnswerLaws.{armed_free, unarmed_blocked}
+use Rattle.step_answers.proofs.AnswerLaws.{armed_free, unarmed_blocked}
 use Rattle.step_packet.proofs.is_blocked.Goals as goal
 
 pub returns-then-armed : goal.returns-then-armed

@@ -2,7 +2,7 @@
 use Rattle.std.proofs.Common.{refl, sym, ◌∙◌}
 use Rattle.step_effects.specs.FaultStates.{enable, disable, clear}
 use Rattle.step_answers.specs.declared.own.Own.TheVariants.{Arm, ResetCounters, NoOp, NoOpWithArgument, Enable, Disable, Clear, ClearAll}
-use Rattle.step_rules.specs.MovedLaws.{own_moves_31, own_moves_off, own_moves_on}
+use Rattle.step_rules.proofs.MovedLaws.{own_moves_31, own_moves_off, own_moves_on}
 use Rattle.step_packet.proofs.own_step.Goals as goal
 
 pub returns-then-args-wanted : goal.returns-then-args-wanted

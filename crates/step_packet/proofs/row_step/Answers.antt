@@ -1,7 +1,7 @@
 -- `row_step`: the row at the place found, or none.
 use Rattle.std.proofs.Common.{refl}
-use Rattle.step_effects.specs.ActLaws.{place_below, place_past}
-use Rattle.step_rules.specs.MovedLaws.{row_moves_32, row_moves_12}
+use Rattle.step_effects.proofs.ActLaws.{place_below, place_past}
+use Rattle.step_rules.proofs.MovedLaws.{row_moves_32, row_moves_12}
 use Rattle.step_packet.proofs.row_step.Goals as goal
 
 pub returns-then-at-nrows : goal.returns-then-at-nrows

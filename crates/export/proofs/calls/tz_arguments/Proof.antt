@@ -1,6 +1,6 @@
 -- `tz_arguments`: the part's length, and its place by the refusal.
 use mathlib.Core.Path.{◌≡◌, sym, ◌∙◌}
-use Rattle.export_rules.specs.BoundaryLaws.{part_refused, part_accepted}
+use Rattle.export_rules.proofs.BoundaryLaws.{part_refused, part_accepted}
 use Rattle.export.proofs.calls.tz_arguments.Statement.{statement}
 use Rattle.export.proofs.calls.tz_arguments.Tie as tie
 

@@ -1,6 +1,6 @@
 -- `tz_lent_fault`: an armed number that is neither 0 nor 1, or the step handed out.
 use borrow.Author.Rules.{rules}
-use Rattle.export_rules.specs.BoundaryLaws.{fault_untold, fault_told}
+use Rattle.export_rules.proofs.BoundaryLaws.{fault_untold, fault_told}
 use Rattle.export.proofs.calls.tz_lent_fault.Statement.{statement}
 use Rattle.export.proofs.calls.tz_lent_fault.Tie as tie
 

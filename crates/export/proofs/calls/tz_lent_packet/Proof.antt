@@ -1,6 +1,6 @@
 -- `tz_lent_packet`: an armed number that is neither 0 nor 1, or the step handed out.
 use borrow.Author.Rules.{rules}
-use Rattle.export_rules.specs.BoundaryLaws.{packet_untold, packet_told}
+use Rattle.export_rules.proofs.BoundaryLaws.{packet_untold, packet_told}
 use Rattle.export.proofs.calls.tz_lent_packet.Statement.{statement}
 use Rattle.export.proofs.calls.tz_lent_packet.Tie as tie
 

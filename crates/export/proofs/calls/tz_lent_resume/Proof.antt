@@ -1,6 +1,6 @@
 -- `tz_lent_resume`: an armed number that is neither 0 nor 1, or the piece handed out.
 use borrow.Author.Rules.{rules}
-use Rattle.export_rules.specs.BoundaryLaws.{resume_untold, resume_told}
+use Rattle.export_rules.proofs.BoundaryLaws.{resume_untold, resume_told}
 use Rattle.export.proofs.calls.tz_lent_resume.Statement.{statement}
 use Rattle.export.proofs.calls.tz_lent_resume.Tie as tie
 

@@ -1,6 +1,6 @@
 -- `tz_lent_tick`: an armed number that is neither 0 nor 1, or the step handed out.
 use borrow.Author.Rules.{rules}
-use Rattle.export_rules.specs.BoundaryLaws.{tick_untold, tick_told}
+use Rattle.export_rules.proofs.BoundaryLaws.{tick_untold, tick_told}
 use Rattle.export.proofs.calls.tz_lent_tick.Statement.{statement}
 use Rattle.export.proofs.calls.tz_lent_tick.Tie as tie
 

@@ -1,7 +1,8 @@
 -- `read_records`: the loop's invariant is `Walked`, and each way out is one of its laws.
 use Rattle.std.proofs.Common.{refl, arith}
-use Rattle.image_load.specs.Loading.{nothing, only}
-use Rattle.image_load.specs.LoadWalk.{stops_at, start, cuts, refuses, counts, goes_on}
+use Rattle.image_load.specs.Loading.{nothing}
+use Rattle.image_load.proofs.Loading.{only}
+use Rattle.image_load.proofs.LoadWalk.{stops_at, start, cuts, refuses, counts, goes_on}
 use Rattle.image_load.proofs.load.read_records.Goals as goal
 
 pub returns-then-image-eq0 : goal.returns-then-image-eq0

@@ -1,7 +1,7 @@
 -- `found_at`: the header is cut, the body is cut, or the record is whole.
 use Rattle.std.proofs.Common.{arith}
-use Rattle.image_rules.specs.RecordLaws.{cut_head, cut_body}
-use Rattle.image_rules.specs.RecordPartLaws.{none_found}
+use Rattle.image_rules.proofs.RecordLaws.{cut_head, cut_body}
+use Rattle.image_rules.proofs.RecordPartLaws.{none_found}
 use Rattle.image_rules.proofs.record.found_at.Goals as goal
 
 pub returns-then-bytes-at-lt4 : goal.returns-then-bytes-at-lt4

@@ -1,6 +1,6 @@
 -- `arguments`: the empty part at the start of a refused packet, else the accepted packet's part.
 use Rattle.std.proofs.Common.{refl, sym, arith}
-use Rattle.packet_rules.specs.JudgeLaws.{accepts, arguments_refused, at_refused, at_accepted}
+use Rattle.packet_rules.proofs.JudgeLaws.{accepts, arguments_refused, at_refused, at_accepted}
 use Rattle.packet_judge.proofs.enquiry.arguments.Goals as goal
 
 pub returns-then-refusal-ne0-clause-content : goal.returns-then-refusal-ne0-clause-content

@@ -2,7 +2,7 @@
 use Rattle.std.proofs.Common.{refl, arith}
 use Rattle.wire.specs.XorLaws.{zero_first, first_zero}
 use Rattle.packet_rules.specs.JudgeOutcome.{not_xor_0}
-use Rattle.packet_rules.specs.JudgeLaws.{form_bad, form_good}
+use Rattle.packet_rules.proofs.JudgeLaws.{form_bad, form_good}
 use Rattle.packet_judge.proofs.form.form_refusal.Goals as goal
 
 pub returns-then-b0-ne3 : goal.returns-then-b0-ne3

@@ -1,6 +1,6 @@
 -- `judge`: a refusal with zeros, or the id and the count of an accepted packet.
 use Rattle.std.proofs.Common.{arith}
-use Rattle.packet_rules.specs.JudgeLaws.{accepts, judge_refused, judge_accepted}
+use Rattle.packet_rules.proofs.JudgeLaws.{accepts, judge_refused, judge_accepted}
 use Rattle.packet_judge.proofs.judge.judge.Goals as goal
 
 pub returns-then-n-ne0 : goal.returns-then-n-ne0

@@ -1,7 +1,7 @@
 -- `refusal`: each return is one line of `Outcome`; the form's checks count as `form_refusal` found them.
 use Rattle.std.proofs.Common.{◌∙◌, arith}
 use Rattle.packet_rules.specs.JudgeOutcome.{below_6, not_whole, no_room, too_many, taken}
-use Rattle.packet_rules.specs.JudgeLaws.{only, formed, form_counts}
+use Rattle.packet_rules.proofs.JudgeLaws.{only, formed, form_counts}
 use Rattle.packet_judge.proofs.judge.refusal.Goals as goal
 
 pub returns-then-size-lt6 : goal.returns-then-size-lt6

@@ -1,7 +1,7 @@
 -- `accepted_part`: the part from byte 10 up to the pads, at ten bytes behind the packet's start.
 use Rattle.std.proofs.Common.{◌≡◌, ℕ, ◌-◌, length, take, drop, sym, ap, ◌∙◌, arith}
 use Rattle.packet_rules.specs.Layout.{arg_count}
-use Rattle.packet_rules.specs.JudgeLaws.{arguments_accepted}
+use Rattle.packet_rules.proofs.JudgeLaws.{arguments_accepted}
 use Rattle.packet_judge.proofs.parts.accepted_part.Goals as goal
 
 pub returns-clause-content : goal.returns-clause-content

@@ -8,7 +8,7 @@ use Rattle.state.specs.declared.types.Run.{Run}
 use Rattle.state.specs.Tables.{config_from, run_from}
 use Rattle.state.specs.Test.{keeps_rules}
 use Rattle.state.specs.KeepsLaws as state
-use Rattle.replay_rules.specs.ReplayLaws.{breaks, keeps}
+use Rattle.replay_rules.proofs.ReplayLaws.{breaks, keeps}
 use Rattle.replay.proofs.replay.lent_resume.Statement.{statement}
 use Rattle.replay.proofs.replay.lent_resume.Tie as tie
 

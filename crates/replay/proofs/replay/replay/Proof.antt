@@ -3,8 +3,8 @@ use mathlib.Core.Path.{sym, ap, ◌∙◌}
 use borrow.Author.Rules.{rules}
 use Rattle.state.specs.Sized.{LentState}
 use Rattle.image_load.specs.declared.types.Loaded.{Loaded}
-use Rattle.image_load.specs.LoadTheorems.{loaded_lent}
-use Rattle.replay_rules.specs.ReplayLaws.{refused, loaded}
+use Rattle.image_load.proofs.LoadTheorems.{loaded_lent}
+use Rattle.replay_rules.proofs.ReplayLaws.{refused, loaded}
 use Rattle.replay.proofs.replay.replay.Statement.{statement}
 use Rattle.replay.proofs.replay.replay.Tie as tie
 

@@ -1,5 +1,6 @@
 -- `refusal`: each return is a line of the table `Sort`.
-use Rattle.replay_rules.specs.RecordingLaws.{is_packet, is_tick, is_fault, long_tick, bad_fault, other, only}
+use Rattle.replay_rules.specs.RecordingLaws.{is_packet, is_tick, is_fault, long_tick, bad_fault, other}
+use Rattle.replay_rules.proofs.RecordingLaws.{only}
 use Rattle.replay_rules.proofs.recording.refusal.Goals as goal
 
 pub returns-then-kind-eq16 : goal.returns-then-kind-eq16

@@ -4,7 +4,7 @@ use Rattle.std.proofs.Math.Option.{some}
 use Rattle.step_answers.specs.Own.{rule_of, selection_of, own_command}
 use Rattle.step_answers.specs.declared.own.Own.{Own}
 use Rattle.step_answers.specs.declared.own.Own.TheVariants.{Arm, ResetCounters, NoOp, NoOpWithArgument, Enable, Disable, Clear, ClearAll}
-use Rattle.step_answers.specs.OwnLaws.{below_base, above_base, from_base}
+use Rattle.step_answers.proofs.OwnLaws.{below_base, above_base, from_base}
 use Rattle.step_answers.proofs.own.selected.Goals as goal
 
 arm : (base id : ℕ) → base ≤ id → (k : Own) → id - base ≡ (rule_of k).number → (rule_of k).number < 8 → selection_of (some k) ≡ selection_of (own_command base id)

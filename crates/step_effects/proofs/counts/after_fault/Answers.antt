@@ -1,5 +1,5 @@
 -- `after_fault`: F, and D where the response was dispatched.
-use Rattle.step_effects.specs.CountLaws.{faults_10, faults_other}
+use Rattle.step_effects.proofs.CountLaws.{faults_10, faults_other}
 use Rattle.step_effects.proofs.counts.after_fault.Goals as goal
 
 pub returns-then-n-ne10 : goal.returns-then-n-ne10

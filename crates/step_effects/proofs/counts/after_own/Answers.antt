@@ -1,6 +1,6 @@
 -- `after_own`: A alone, or zeros by a reset.
 use Rattle.std.proofs.Common.{◌∙◌}
-use Rattle.step_effects.specs.CountLaws.{counts_own, counts_12, counts_reset}
+use Rattle.step_effects.proofs.CountLaws.{counts_own, counts_12, counts_reset}
 use Rattle.step_effects.proofs.counts.after_own.Goals as goal
 
 pub returns-then-n-ne12 : goal.returns-then-n-ne12

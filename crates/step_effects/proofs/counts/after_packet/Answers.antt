@@ -1,7 +1,7 @@
 -- `after_packet`: each way by the answer.
 use Rattle.std.proofs.Common.{sym, ◌∙◌, arith}
-use Rattle.packet_rules.specs.Rejection.{above_them}
-use Rattle.step_effects.specs.CountLaws.{counts_10, counts_rejected, counts_30, counts_invalid, counts_33, counts_high}
+use Rattle.packet_rules.proofs.RejectionLaws.{above_them}
+use Rattle.step_effects.proofs.CountLaws.{counts_10, counts_rejected, counts_30, counts_invalid, counts_33, counts_high}
 use Rattle.step_effects.proofs.counts.after_packet.Goals as goal
 
 pub returns-then-n-eq10 : goal.returns-then-n-eq10

@@ -1,6 +1,6 @@
 -- `clear_all`: after k turns the first k states are cleared, in the lent array itself.
 use Rattle.std.proofs.Common.{◌∙◌, arith}
-use Rattle.step_effects.specs.FaultLaws.{clear_kept, clear_next}
+use Rattle.step_effects.proofs.FaultLaws.{clear_kept, clear_next}
 use Rattle.step_effects.proofs.faults.clear_all.Goals as goal
 
 pub loop-k-preserved : goal.loop-k-preserved

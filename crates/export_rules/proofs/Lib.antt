@@ -1,0 +1,3 @@
+pub mod BoundaryLaws
+pub mod Chain
+pub mod PieceChain

@@ -1,0 +1,9 @@
+pub mod Agree
+pub mod AnswersLaws
+pub mod ArmRule
+pub mod Calls
+pub mod KnownLaws
+pub mod Outputs
+pub mod RowsLaws
+pub mod ShutOut
+pub mod Wrap

@@ -1,0 +1,4 @@
+pub mod LoadTheorems
+pub mod LoadWalk
+pub mod Loading
+pub mod Places

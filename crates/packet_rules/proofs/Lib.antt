@@ -1,0 +1,4 @@
+pub mod HeaderBytes
+pub mod JudgeLaws
+pub mod PacketParts
+pub mod RejectionLaws

@@ -1,0 +1,15 @@
+pub mod Demand1
+pub mod Demand2
+pub mod Excluded
+pub mod FaultMovedLaws
+pub mod FaultStepLaws
+pub mod Found
+pub mod LentSteps
+pub mod MovedLaws
+pub mod MovedOn
+pub mod Packets
+pub mod RowCommands
+pub mod RulesKept
+pub mod StateLaws
+pub mod StepLaws
+pub mod StepOutcome
