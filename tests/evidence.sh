@@ -19,7 +19,7 @@ grep -o '`[^`]*`' "$map" | tr -d '`' | sort -u >"$room/words"
 
 # every word of the sources: names of Rattle, and names of antt with their dashes
 cat crates/*/src/*.rt | grep -oE '[A-Za-z_][A-Za-z0-9_]*' | sort -u >"$room/code"
-cat crates/*/specs/*.antt | tr ' (){};,' '\n\n\n\n\n\n\n\n' | sort -u >"$room/defs"
+cat crates/*/specs/*.antt crates/*/proofs/*.antt | tr ' (){};,' '\n\n\n\n\n\n\n\n' | sort -u >"$room/defs"
 known() { grep -qxF -e "$1" "$room/code" || grep -qxF -e "$1" "$room/defs"; }
 
 while IFS= read -r word; do
@@ -30,9 +30,9 @@ while IFS= read -r word; do
     */*)
         crate=${word%%/*} name=${word#*/}
         case $name in
-        specs/*.antt | src/*.rt) [ -e "crates/$crate/$name" ] || bad "$word is no file" ;;
+        specs/*.antt | proofs/*.antt | src/*.rt) [ -e "crates/$crate/$name" ] || bad "$word is no file" ;;
         *.rt) [ -e "crates/$crate/src/$name" ] || bad "$word is no file of the sources" ;;
-        [A-Z]*) [ -e "crates/$crate/specs/$name.antt" ] || bad "$word is no file of definitions" ;;
+        [A-Z]*) [ -e "crates/$crate/specs/$name.antt" ] || [ -e "crates/$crate/proofs/$name.antt" ] || bad "$word is no file of definitions or theorems" ;;
         *) [ -e "crates/$crate/must-fail/$name.edit" ] || bad "$word is no must-fail edit" ;;
         esac ;;
     *.rt | *.antt | *.sh | *.h) ;;                                                   # named beside its crate

@@ -1,13 +1,13 @@
 """Whether the rows of the pages of evidence hold together; tests/evidence.sh runs it.
 
-A theorem of a row stands in a file that defines or imports a definition that the row names. A row that begins with an empty cell
-goes on with the row above it. Prints what does not hold, and fails where something does not.
+A theorem of a row stands in a file that defines or imports a definition that the row names; files of one name in a crate's specs/ and
+proofs/, definitions and the theorems of them, are one. A row that begins with an empty cell goes on with the row above it. Prints what does not hold, and fails where something does not.
 """
 import glob, re, sys
 
 NAME = r"[^\s(){};,.`]+"
 HEAD = re.compile(rf" *(?:abbrev |unfoldable )?(?:pub )?(?:(?:data|record) ({NAME})|({NAME})(?= :))")
-SPECS = sorted(glob.glob("crates/*/specs/*.antt"))
+SPECS = sorted(glob.glob("crates/*/specs/*.antt") + glob.glob("crates/*/proofs/*.antt"))
 PAGES = sorted(glob.glob("docs/evidence/*.md"))
 
 
@@ -45,16 +45,22 @@ defined = {path: {m[1] or m[2] for m in map(HEAD.match, read(path).split("\n")) 
 imported = {path: {name.strip() for names in re.findall(r"use Rattle\.\S+\.\{(.*)\}", read(path)) for name in names.split(",")} for path in SPECS}
 
 
+def spoken(path):
+    """What a file defines or imports, with the file of its name in the other folder."""
+    other = path.replace("/specs/", "/proofs/") if "/specs/" in path else path.replace("/proofs/", "/specs/")
+    return set().union(*(names.get(file, set()) for file in (path, other) for names in (defined, imported)))
+
+
 def homes(text, crates):
     """Each theorem that a cell names, with the files where it stands: that before it, else those of the heading's crates."""
-    folder = None
+    folder = ()
     for word in re.findall(r"`([^`]+)`", text):
         if re.fullmatch(r"\w+/[A-Z]\w*", word):
-            folder = "crates/{}/specs/{}.antt".format(*word.split("/"))
+            folder = ["crates/{}/{}/{}.antt".format(word.split("/")[0], part, word.split("/")[1]) for part in ("specs", "proofs")]
         elif re.match(NAME, word):
             name = re.match(NAME, word)[0]
             files = [path for path in SPECS if name in defined[path]]
-            own = [path for path in files if path == folder] or [path for path in files if path.split("/")[1] in crates] or files
+            own = [path for path in files if path in folder] or [path for path in files if path.split("/")[1] in crates] or files
             if own:
                 yield name, own
 
@@ -67,7 +73,7 @@ def main():
             named = words(cells.get("definition", ""))
             for name, files in homes(cells.get("theorem", ""), crates):
                 theorems += 1
-                if not any(named & (defined[path] | imported[path]) for path in files):
+                if not any(named & spoken(path) for path in files):
                     bad.append(f"{name} stands in {' '.join(files)}, which has no definition that its row names: {page}: {title}")
     for line in bad:
         print(line)
