@@ -4,7 +4,7 @@
 .PHONY: demo refuse test bench
 
 demo:
-	@bin/progress "make demo" rt check step
+	@bin/progress "make demo" rt run step
 	@echo "Configuration C and its session (G, ARM, tick, G, ARM, tick, tick, G, PAD, fault 7, fault 7, fault 8):"
 	@bin/step crates/step/data/path.cfg < crates/step/stdin
 
@@ -15,7 +15,7 @@ test:
 	@bash .ci/run
 
 bench:
-	@bin/progress "make bench" rt staticlib export
+	@bin/archive "make bench"
 	@bin/instructions > target/instructions
 	@bin/cargo run -q --locked --release -p bench -- --write docs/BENCHMARKS.md --instructions target/instructions
 	@bin/rows --check

@@ -1,5 +1,5 @@
 /*
- * The onboard command path, for C. Link with target/staticlib/libexport.a (x86-64 Linux), which `rt staticlib export` writes
+ * The onboard command path, for C. Link with target/staticlib/libexport.a (x86-64 Linux), which `bin/archive` writes
  * once every function in it is proved to meet its contract. docs/EVIDENCE.md says what is proved of each.
  *
  * Every function here takes any bytes, any configuration and any run, and answers: each returns, and none reads or writes

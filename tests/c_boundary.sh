@@ -1,13 +1,13 @@
 # The C boundary: the header, the archive and four C programs, compiled and run; one of them measures the stack, one prints what
-# docs/FORMATS.md shows of a replay. On a processor that is not x86-64 they are compiled by the cross compiler and run under the
-# toolchain's emulator.
+# docs/FORMATS.md shows of a replay. On a processor that is not x86-64 they are compiled by the cross compiler and run under an
+# emulator of the toolchain, where it has one.
 set -eu
 cd "$(dirname "$0")/.."
 . bin/x86
 x86_tools || exit 1
 room=$(mktemp -d)
 trap 'rm -rf "$room"' EXIT
-rt staticlib export >"$room/log" 2>&1 || { cat "$room/log" >&2; exit 1; }
+bin/archive >"$room/log" 2>&1 || { cat "$room/log" >&2; exit 1; }
 compile() { $X86_CC -std=c11 -Wall -Wextra -Wpedantic -Werror -O2 -Iinclude -o "$room/$1" "$2" target/staticlib/libexport.a; }
 compile boundary tests/c/boundary.c
 compile session examples/c/session.c

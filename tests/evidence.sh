@@ -76,7 +76,7 @@ section=$(sed -n '/^## Where the papers are silent/,/^## Repository/p' docs/DECI
 for n in $(sed -nE 's/^([0-9]+)\. .*/\1/p' rust/reading/POINTS.md); do
     printf '%s\n' "$section" | grep -qE "^\\| ([0-9]+, )*$n(, [0-9]+)* \\|" || bad "point $n of the reading is not in docs/DECISIONS.md"
 done
-for word in $(printf '%s\n' "$section" | sed -nE 's/^\| [0-9].*\| ([^|]*) \|$/\1/p' | grep -oE '`[A-Za-z]+`' | tr -d '`'); do
+for word in $(printf '%s\n' "$section" | sed -nE 's/^\| [0-9].*\| ([^|]*) \|$/\1/p' | grep -oE '`[A-Za-z_0-9]+`' | tr -d '`'); do
     known "$word" || [ "$word" = stdout ] || bad "docs/DECISIONS.md names $word, and nothing has that name"
 done
 [ $failed = 0 ] && echo "evidence: $(wc -l <"$room/words") names, all there; nothing is missing from the map"

@@ -42,7 +42,7 @@ def words(text):
 
 
 defined = {path: {m[1] or m[2] for m in map(HEAD.match, read(path).split("\n")) if m} for path in SPECS}
-imported = {path: {name.strip() for names in re.findall(r"use Rattle·\S+\.\{(.*)\}", read(path)) for name in names.split(",")} for path in SPECS}
+imported = {path: {name.strip() for names in re.findall(r"use Rattle\.\S+\.\{(.*)\}", read(path)) for name in names.split(",")} for path in SPECS}
 
 
 def homes(text, crates):

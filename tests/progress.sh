@@ -6,17 +6,24 @@ trap 'rm -rf "$room"' EXIT
 failed=0
 bad() { echo "progress: $1" >&2; failed=1; }
 
-# Four crates, in an order that is not that of the file: the prover takes b and d before c.
+# Four crates, in an order that is not that of the file: the prover takes b and d before c. It works in the folder of c, says
+# nothing of a, which was proved before, and looks at d again, of which nothing has changed.
 printf 'c: b d a\na:\nb: a\nd: a # a comment\nother: c\n' >"$room/crates.txt"
-mkdir "$room/bin"
+mkdir "$room/bin" "$room/crates" "$room/crates/c"
 cat >"$room/bin/rt" <<'WORDS'
 #!/bin/sh
-echo "rt: a proved (unchanged since it was last proved)"
+[ "$*" = check ] && [ "${PWD##*/}" = c ] || { echo "rt $* in $PWD"; exit 2; }
+echo "rt: chose --jobs 2 for b"
 echo "fn b::one: proved"
-echo "rt: b proved (3 s)"
-echo "rt: d proved (12 s)" >&2
-[ ! -f broken ] || { echo "rt: c NOT PROVED (exit 1, 2 s)"; exit 1; }
-echo "rt: c proved (1 s)"
+echo "crate b: modules loaded=1 checked=35"
+echo "logic=proved functions=1 sum=0"
+echo "rt: chose --jobs 2 for d" >&2
+echo "crate d: modules loaded=36 checked=0"
+echo "logic=proved functions=1 sum=0"
+echo "rt: chose --jobs 2 for c" >&2
+[ ! -f ../../broken ] || { echo "crate c: modules loaded=3 checked=1"; echo "logic=not-proved"; exit 1; }
+echo "crate c: modules loaded=3 checked=1"
+echo "logic=proved functions=2 sum=0"
 WORDS
 chmod +x "$room/bin/rt"
 progress=$PWD/bin/progress
@@ -26,7 +33,7 @@ PATH=$room/bin:$PATH
 # same NAME FILE EXPECTED
 same() {
     printf '%s\n' "$3" >expected
-    if sed -E 's/are proved \([0-9]+ s\)$/are proved (N s)/' "$2" | cmp -s - expected; then
+    if sed -E 's/ \([0-9]+ s\)$/ (N s)/' "$2" | cmp -s - expected; then
         echo "progress: $1: ok"
     else
         diff expected "$2" >&2 || true
@@ -37,9 +44,8 @@ same() {
 "$progress" "make demo" rt check c >out 2>err || bad "exit status $?"
 [ ! -s out ] || bad "something is on standard output"
 same "without a terminal" err "make demo: proving; 4 crates in all
-make demo: proved 2 of 4: b (3 s)
-make demo: proved 3 of 4: d (12 s)
-make demo: proved 4 of 4: c (1 s)
+make demo: proved 2 of 4: b (N s)
+make demo: proved 4 of 4: c (N s)
 make demo: all 4 crates are proved (N s)"
 
 python3 -c '
@@ -68,11 +74,15 @@ status=0
 "$progress" "bin/step" rt check c >out 2>err || status=$?
 [ $status = 1 ] || bad "exit status $status where the prover fails with 1"
 same "where something is not proved" err "bin/step: proving; 4 crates in all
-bin/step: proved 2 of 4: b (3 s)
-bin/step: proved 3 of 4: d (12 s)
-rt: a proved (unchanged since it was last proved)
+bin/step: proved 2 of 4: b (N s)
+rt: chose --jobs 2 for b
 fn b::one: proved
-rt: b proved (3 s)
-rt: d proved (12 s)
-rt: c NOT PROVED (exit 1, 2 s)"
+crate b: modules loaded=1 checked=35
+logic=proved functions=1 sum=0
+rt: chose --jobs 2 for d
+crate d: modules loaded=36 checked=0
+logic=proved functions=1 sum=0
+rt: chose --jobs 2 for c
+crate c: modules loaded=3 checked=1
+logic=not-proved"
 exit $failed

@@ -7,7 +7,7 @@ failed=0
 bad() { echo "refuse: $1" >&2; failed=1; }
 
 # every file of the sources with its sum, and what git says of the folder
-sources() { find bin crates docs examples include tests Makefile README.md crates.txt -type f -exec sha256sum {} + | sort -k2; }
+sources() { find bin crates docs examples include tests Makefile README.md crates.txt -path 'crates/*/out' -prune -o -type f -exec sha256sum {} + | sort -k2; }
 state() { sources; git status --porcelain 2>/dev/null || true; }
 
 state >"$room/before"
@@ -24,7 +24,7 @@ cmp -s "$room/a" "$room/b" || { diff "$room/b" "$room/a" >&2 || true; bad "READM
 
 # Where the fault does not fit the sources, or the prover is missing, it says so and does not end with 0.
 mkdir "$room/copy"
-cp -R bin crates crates.txt "$room/copy/"
+tar -cf - --exclude='crates/*/out' bin crates crates.txt | tar -xf - -C "$room/copy"
 sed -i 's/^    5 + args.len() as u16$/    5 + (args.len() as u16)/' "$room/copy/crates/step_effects/src/dispatch.rt"
 mkdir "$room/none"
 cat >"$room/none/rt" <<'WORDS'

@@ -23,7 +23,7 @@ quiet() {
 
 # The archive is made from what stands in the repository.
 if [ -d crates/export ]; then
-    rt staticlib export >"$room/log" 2>&1 || { cat "$room/log" >&2; exit 1; }
+    bin/archive >"$room/log" 2>&1 || { cat "$room/log" >&2; exit 1; }
 fi
 [ -f target/staticlib/libexport.a ] || { echo "rust: there is no target/staticlib/libexport.a to test" >&2; exit 1; }
 

@@ -28,7 +28,7 @@ EXEMPT = {
     "make test": "this test is a part of it",
     "make bench": "it measures for minutes",
     "make refuse": "tests/refuse.sh runs it, and compares what it prints with what is shown",
-    "rt staticlib export": "tests/rust.sh runs it",
+    "bin/archive": "tests/rust.sh runs it",
 }
 # Where the code of a fenced block comes from.
 CODE = {"c": ["examples/c/session.c"], "rust": ["rust/tamezohishu/examples/session.rs"]}

@@ -17,7 +17,7 @@ fn main() {
     println!("cargo::rerun-if-changed={}", archive.display());
     if !archive.is_file() {
         println!(
-            "cargo::error=target/staticlib/libexport.a is not there: run `rt staticlib export` at the repository's root"
+            "cargo::error=target/staticlib/libexport.a is not there: run `bin/archive` at the repository's root"
         );
         return;
     }
