@@ -135,7 +135,7 @@ fn broken_run(l: Loaded) {
     all_three(config, r);
 }
 
-// A packet from the ground_source: header, function code 0, the checksum that makes the XOR zero, id and arguments.
+// A packet from the ground: header, function code 0, the checksum that makes the XOR zero, id and arguments.
 fn make(b: &mut [u8], id: u16, args: &[u8]) -> usize {
     let data = 3 + args.len() % 256;
     let n = text::put(
