@@ -1,4 +1,6 @@
 // The walk over a recording's events behind a state that keeps its rules: each event costs one inner step, and no judge of the state.
+#![tactic(auto)]
+
 ghost use Rattle.state.specs.Tables.{config_from, run_from};
 ghost use Rattle.state.specs.Sized.{LentState};
 ghost use Rattle.replay_rules.specs.Replay.{Replays};
