@@ -1,6 +1,6 @@
 -- What callers use of the builder's definitions: the statements of `BuildOutcome` fit the computed refusal, both ways; and what is
 -- handed back and left in the output in each case.
-use Rattle.std.specs.Prelude.{List, ◌∷◌, ◌++◌, ℕ, ◌+◌}
+use Rattle.std.specs.Prelude.{List, ◌∷◌, ◌++◌, ℕ}
 use Rattle.build_rules.specs.Build.{Fields, front, back}
 
 -- ---- how it is written: a zero for the checksum, then the XOR of all in its place

@@ -2,7 +2,7 @@
 
 // The builder's answer: 0 and the bytes written, or a refusal and 0.
 #[repr(C)]
-#[derive(Drop)]
+#[derive(Clone, Copy)]
 pub struct Built {
     pub answer: u8,
     pub written: u16,

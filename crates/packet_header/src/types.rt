@@ -1,7 +1,7 @@
 // The fields of the primary header.
 
 // 0 with every field, or the refusal 22 with zeros.
-#[derive(Drop)]
+#[derive(Clone, Copy)]
 pub struct Header {
     pub answer: u8,
     pub version: u8,

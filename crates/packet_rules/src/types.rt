@@ -2,7 +2,7 @@
 
 // The judge's answer: 0 with command id and argument count, or a refusal with zeros.
 #[repr(C)]
-#[derive(Drop)]
+#[derive(Clone, Copy)]
 pub struct Judged {
     pub answer: u8,
     pub id: u16,

@@ -6,7 +6,7 @@ use std::io;
 use std::io::Read;
 
 // Where a session stands: the run, and the bytes read and not yet used.
-#[derive(Drop)]
+#[derive(Clone, Copy)]
 pub struct At {
     pub run: Run,
     pub start: usize,
