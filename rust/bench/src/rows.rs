@@ -234,7 +234,7 @@ impl Event {
 }
 
 /// The rows that a search looks at, in order, for an id among those in use of a column with so many places. It restates
-/// `looks` of crates/state_lookup/specs/Search.antt..antt
+/// `looks` of crates/state_lookup/specs/Search.antt.
 fn looks(ids: &[u16], places: usize, id: u16) -> Vec<u8> {
     let mut seen = Vec::new();
     let mut at = ids.len();
