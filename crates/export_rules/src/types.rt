@@ -9,7 +9,7 @@ use step_rules::types::{Answer, Left};
 
 // A standing as C keeps it: armed is 0 or 1, and a state with any other number breaks its rules.
 #[repr(C)]
-#[derive(Drop)]
+#[derive(Clone, Copy)]
 pub struct SavedStanding {
     pub armed: u8,
     pub ticks: u16,
@@ -18,7 +18,7 @@ pub struct SavedStanding {
 
 // A run as C keeps it.
 #[repr(C)]
-#[derive(Drop)]
+#[derive(Clone, Copy)]
 pub struct Saved {
     pub standing: SavedStanding,
     pub states: [u8; 32],
@@ -26,7 +26,7 @@ pub struct Saved {
 
 // A part of a packet: where it begins, and how many bytes it has.
 #[repr(C)]
-#[derive(Drop)]
+#[derive(Clone, Copy)]
 pub struct Part {
     pub offset: usize,
     pub length: usize,
@@ -34,7 +34,7 @@ pub struct Part {
 
 // What loading hands back.
 #[repr(C)]
-#[derive(Drop)]
+#[derive(Clone, Copy)]
 pub struct Loading {
     pub answer: u8,
     pub offset: usize,
@@ -44,7 +44,7 @@ pub struct Loading {
 
 // What a step hands back; the fault states are left where they were lent.
 #[repr(C)]
-#[derive(Drop)]
+#[derive(Clone, Copy)]
 pub struct Handed {
     pub standing: SavedStanding,
     pub answer: Answer,
@@ -52,7 +52,7 @@ pub struct Handed {
 
 // What a piece of a recording hands back, the fault states as in `Handed`.
 #[repr(C)]
-#[derive(Drop)]
+#[derive(Clone, Copy)]
 pub struct Portion {
     pub standing: SavedStanding,
     pub stop: u8,
