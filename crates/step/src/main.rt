@@ -1,4 +1,5 @@
-// The step program of document 01: the configuration from path.cfg, records from standard input, one line a step.
+// The step program of document 01: the configuration from path.cfg, records from standard input, one line a step. What can't
+// be written is lost, and the program goes on.
 #![tactic(auto)]
 
 mod input;
@@ -6,8 +7,8 @@ mod lines;
 mod session;
 
 use image_load::types::Loaded;
+use std::fs;
 use std::rt::Files;
-use std::{fs, io};
 
 // The image is the first 65,536 bytes of path.cfg; a file that can't be opened counts as an empty image.
 fn load(rt: &impl Files) -> Loaded {
@@ -21,16 +22,17 @@ fn load(rt: &impl Files) -> Loaded {
     }
 }
 
-fn main(rt: HostRuntime) -> io::Result<()> {
+fn main(rt: HostRuntime) {
     let loaded = load(&rt);
     let mut line = [0u8; 64];
     let n = text::put_number(&mut line, 0, loaded.answer as u64, b' ');
     let n = text::put_number(&mut line, n, loaded.offset as u64, b'\n');
-    rt.write_all(text::first(&line, n))?;
+    let _ = rt.write_all(text::first(&line, n));
     if loaded.answer != 0 {
-        return rt.write_all(b"bad\n");
+        let _ = rt.write_all(b"bad\n");
+        return;
     }
     let config = loaded.config;
     let run = loaded.run;
-    session::run_all(&rt, config, run)
+    session::run_all(&rt, config, run);
 }

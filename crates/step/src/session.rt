@@ -2,7 +2,6 @@
 use crate::{input, lines};
 use replay_rules::recording;
 use state::types::{Config, Run};
-use std::io;
 use std::io::Read;
 
 // Where a session stands: the run, and the bytes read and not yet used.
@@ -15,17 +14,17 @@ pub struct At {
 }
 
 // The session ends; `bad` where a record was.
-fn ended(rt: &impl Print, at: At, bad: bool) -> io::Result<At> {
+fn ended(rt: &impl Print, at: At, bad: bool) -> At {
     if bad {
-        rt.write_all(b"bad\n")?;
+        let _ = rt.write_all(b"bad\n");
     }
     let mut next = at;
     next.more = false;
-    Ok(next)
+    next
 }
 
 // More bytes are wanted. Where none come, what is left of a record is bad.
-fn wanting(rt: &impl Print, reader: &mut impl Read, at: At, bytes: &mut [u8]) -> io::Result<At> {
+fn wanting(rt: &impl Print, reader: &mut impl Read, at: At, bytes: &mut [u8]) -> At {
     if at.end < at.start {
         return ended(rt, at, true);
     }
@@ -37,20 +36,14 @@ fn wanting(rt: &impl Print, reader: &mut impl Read, at: At, bytes: &mut [u8]) ->
     if next.end <= kept {
         return ended(rt, next, kept != 0);
     }
-    Ok(next)
+    next
 }
 
 // What follows a turn that stopped so: room is made by the next turn, a record that is cut may be whole once more bytes are
 // there, and any other stop but the end is a bad record.
-fn onward(
-    rt: &impl Print,
-    reader: &mut impl Read,
-    at: At,
-    stop: u8,
-    bytes: &mut [u8],
-) -> io::Result<At> {
+fn onward(rt: &impl Print, reader: &mut impl Read, at: At, stop: u8, bytes: &mut [u8]) -> At {
     if stop == recording::OUTPUT_FULL {
-        return Ok(at);
+        return at;
     }
     if stop == recording::CUT_SHORT {
         return wanting(rt, reader, at, bytes);
@@ -69,10 +62,10 @@ fn turn(
     at: At,
     bytes: &mut [u8],
     out: &mut [u8],
-) -> io::Result<At> {
+) -> At {
     let old = at.run;
     let piece = replay::replay::resume(config, old, input::part(bytes, at.start, at.end), out);
-    lines::write(rt, out, piece.count)?;
+    lines::write(rt, out, piece.count);
     let run = piece.run;
     let next = At {
         run: run,
@@ -84,7 +77,7 @@ fn turn(
 }
 
 // All of standard input. The turns count down from a number that no session uses up.
-pub fn run_all(rt: &(impl Print + Input), config: Config, run: Run) -> io::Result<()> {
+pub fn run_all(rt: &(impl Print + Input), config: Config, run: Run) {
     let mut reader = rt.reader();
     let mut bytes = [0u8; 131072];
     let mut out = [0u8; 65536];
@@ -97,10 +90,9 @@ pub fn run_all(rt: &(impl Print + Input), config: Config, run: Run) -> io::Resul
     let mut turns = u64::MAX;
     while turns > 0 {
         if !at.more {
-            return Ok(());
+            return;
         }
-        at = turn(rt, &mut reader, config, at, &mut bytes, &mut out)?;
+        at = turn(rt, &mut reader, config, at, &mut bytes, &mut out);
         turns -= 1;
     }
-    Ok(())
 }
