@@ -2,7 +2,6 @@
 // prints of each its name and the load's answer and offset.
 #![tactic(auto)]
 
-
 // Configuration C: basics, two routes, a protected id, a fault row; its records begin at 0, 10, 17, 24 and 30.
 const C: [u8; 42] = [
     0x06, 0x00, 0x01, 0x00, 0x01, 0x00, 0x02, 0x00, 0x64, 0x00, 0x03, 0x00, 0x02, 0x00, 0x0A, 0x00,

@@ -25,12 +25,7 @@ fn ended(rt: &impl Print, at: At, bad: bool) -> io::Result<At> {
 }
 
 // More bytes are wanted. Where none come, what is left of a record is bad.
-fn wanting(
-    rt: &impl Print,
-    reader: &mut impl Read,
-    at: At,
-    bytes: &mut [u8],
-) -> io::Result<At> {
+fn wanting(rt: &impl Print, reader: &mut impl Read, at: At, bytes: &mut [u8]) -> io::Result<At> {
     if at.end < at.start {
         return ended(rt, at, true);
     }

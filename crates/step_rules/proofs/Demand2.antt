@@ -28,7 +28,7 @@ use Rattle.step_rules.specs.StepOutcome as outcomes
 use Rattle.step_rules.specs.Packets.{is_accepted, OutcomeUnder, AcceptsUnder}
 use Rattle.step_rules.proofs.Packets.{only_under, accepted_under_lem, rejects_under, not_under, rejected_not}
 use Rattle.step_rules.proofs.Demand1.{answered_accepted}
-use Rattle.step_rules.specs.Demand2.{Dispatched, Carries, row, Responded, with_protected}
+use Rattle.step_rules.specs.Demand2.{Dispatched, Carries, Responded, with_protected}
 
 -- ---- accepted exactly when the state keeps its rules, there is room, and the judge accepts
 
