@@ -12,10 +12,10 @@ use Rattle.packet_rules.specs.Layout.{command_id}
 use Rattle.packet_rules.specs.Judge.{arguments_of}
 use Rattle.state.specs.declared.types.Run.{Run}
 use Rattle.state.specs.Tables.{routed, listed, tables_of}
-use Rattle.state.specs.ArrayLaws.{listed_back}
+use Rattle.state.proofs.ArrayLaws.{listed_back}
 use Rattle.state.specs.Rules.{own, member}
 use Rattle.state.specs.Keeps.{Each, ProtectedOk}
-use Rattle.state.specs.KeepsLaws.{both}
+use Rattle.state.proofs.Settings.{both}
 use Rattle.image_rules.specs.Records.{Record, records_of}
 use Rattle.image_load.specs.Image.{of_kind, starts_of_records, load_of}
 use Rattle.image_load.proofs.LoadTheorems.{loads_good, loaded_tables, loaded_run}

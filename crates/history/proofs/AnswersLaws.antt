@@ -17,7 +17,7 @@ use Rattle.step_effects.specs.Dispatch.{dest_of}
 use Rattle.step_answers.specs.declared.own.Own.{Own}
 use Rattle.step_answers.specs.declared.own.Own.TheVariants.{Arm, ResetCounters, NoOp, NoOpWithArgument, Enable, Disable, Clear, ClearAll}
 use Rattle.step_answers.specs.Own.{rule_of, own_command, is_reset}
-use Rattle.state.specs.KeepsLaws.{both}
+use Rattle.state.proofs.Settings.{both}
 use Rattle.step_answers.specs.OwnLaws as own
 use Rattle.step_answers.proofs.OwnLaws as own_laws
 use Rattle.step_answers.specs.Answers.{blocked, route_answer, selected_answer, answer_for, answer_to}

@@ -8,7 +8,7 @@ use Rattle.state.specs.declared.types.Run.{Run}
 use Rattle.state.specs.Tables.{Tables, tables_of}
 use Rattle.state.specs.Test.{keeps_rules}
 use Rattle.state.specs.Keeps.{Keeps}
-use Rattle.state.specs.KeepsLaws.{kept, keeps}
+use Rattle.state.proofs.KeepsLaws.{kept, keeps}
 use Rattle.step_rules.specs.Makers.{unchanged}
 use Rattle.step_rules.specs.Step.{packet_step_of, tick_step_of, fault_step_of}
 use Rattle.step_rules.proofs.Demand1.{packet_20_broken, tick_20_broken, fault_20_broken}

@@ -9,10 +9,10 @@ use Rattle.std.proofs.Math.Dec.{leb-suc-suc}
 use Rattle.std.proofs.lemmas.List.{length-map, set-append_left}
 use Rattle.std.proofs.Math.ListN.{get_or-append, get_or-map}
 use Rattle.state.specs.Tables.{FaultRow, fault_id, listed}
-use Rattle.state.specs.KeepsLaws.{length_listed}
+use Rattle.state.proofs.KeepsLaws.{length_listed}
 use Rattle.state.specs.Keeps.{Rising}
 use Rattle.state.specs.Lookup.{place_in}
-use Rattle.state.specs.ArrayLaws.{listed_at}
+use Rattle.state.proofs.ArrayLaws.{listed_at}
 use Rattle.image_rules.specs.Records.{Record}
 use Rattle.image_load.specs.Image.{of_kind, tables_of_records}
 use Rattle.step_effects.specs.FaultStates.{within, place_of, meant, is_place, row_for, onward, clear_all}

@@ -6,9 +6,9 @@ use Rattle.state.specs.declared.types.Config.{Config}
 use Rattle.state.specs.declared.types.Run.{Run}
 use Rattle.state.specs.Tables.{fresh_run, tables_of}
 use Rattle.state.specs.Test.{keeps_rules}
-use Rattle.state.specs.KeepsLaws.{keeps, kept}
+use Rattle.state.proofs.KeepsLaws.{keeps, kept}
 use Rattle.state.specs.Sized.{LentState}
-use Rattle.state.specs.ArrayLaws.{padded_length, tables_back, rules_few, arrays_sized, arrays_keep}
+use Rattle.state.proofs.ArrayLaws.{padded_length, tables_back, rules_few, arrays_sized, arrays_keep}
 use Rattle.image_load.specs.declared.types.Loaded.{Loaded}
 use Rattle.image_rules.specs.Records.{records_of}
 use Rattle.image_load.specs.Image.{tables_of_records, starts_of_records, refused, loaded, load_of}

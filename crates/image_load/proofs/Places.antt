@@ -1,7 +1,7 @@
 -- Where a record begins: behind as many bytes as the records before it have, 4 for the header of each and its body.
 use Rattle.std.specs.Prelude.{◌≡◌, cond, List, [], ◌∷◌, ◌++◌, ℕ, zero, suc, ◌+◌, leb, length}
 use Rattle.std.proofs.Common.{ap, ◌∙◌, zero-add, arith}
-use Rattle.state.specs.KeepsLaws.{split}
+use Rattle.state.proofs.KeepsLaws.{split}
 use Rattle.image_rules.specs.Records.{le16, Record, record_at, and_then, records_from, records_of}
 use Rattle.image_rules.specs.RecordOutcome.{AllGood}
 use Rattle.image_load.specs.Places.{bytes_of}

@@ -8,7 +8,7 @@ use Rattle.state.specs.Settings.{SettingsOk}
 use Rattle.state.specs.Tables.{Tables, route_id, fault_id, routed}
 use Rattle.state.specs.Rules.{floor_from, floor}
 use Rattle.state.specs.Keeps.{RouteOk, ProtectedOk, RowOk, Rising, Each, Rules}
-use Rattle.state.specs.KeepsLaws.{split}
+use Rattle.state.proofs.KeepsLaws.{split}
 use Rattle.image_rules.specs.Records.{Record}
 use Rattle.image_rules.specs.Written.{of_kind, last_or, value_in, base_in, settings_of_records, row_id, route_in, protected_in, row_in, start_in, tables_of_records, starts_of_records}
 use Rattle.image_rules.specs.Kinds.{is_single, limit, rule, last_of_kinds, kind_of, ids_in}

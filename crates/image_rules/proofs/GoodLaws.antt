@@ -9,8 +9,9 @@ use Rattle.state.specs.Settings.{SettingsOk}
 use Rattle.state.specs.Tables.{Route, FaultRow, Tables, route_id, fault_id, routed}
 use Rattle.state.specs.Rules.{floor_from}
 use Rattle.state.specs.Keeps.{Own, RouteOk, ProtectedOk, RowOk, Rising, Each, Rules}
-use Rattle.state.specs.KeepsLaws.{Few, split}
-use Rattle.state.specs.ArrayLaws.{each_map, rules_few}
+use Rattle.state.specs.KeepsLaws.{Few}
+use Rattle.state.proofs.KeepsLaws.{split}
+use Rattle.state.proofs.ArrayLaws.{each_map, rules_few}
 use Rattle.image_rules.specs.Records.{Record}
 use Rattle.image_rules.specs.Written.{row_id, route_in, protected_in, row_in, start_in, tables_of_records, starts_of_records, plus}
 use Rattle.image_rules.specs.Kinds.{is_single, sized, rule, basics, last_of_kinds, kind_of, ids_in}

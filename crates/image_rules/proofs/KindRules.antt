@@ -4,11 +4,13 @@ use Rattle.std.proofs.Common.{sym, ◌∙◌, arith}
 use Rattle.std.proofs.lemmas.Bool.{false≢true}
 use Rattle.std.proofs.Math.ListN.{length-take}
 use borrow.Author.Tests.{le-leb, leb-true, eqb-true, eq-eqb}
-use Rattle.state.specs.Settings.{settings_ok, SettingsOk, settings_kept, settings_keeps}
+use Rattle.state.specs.Settings.{settings_ok, SettingsOk}
+use Rattle.state.proofs.Settings.{settings_kept, settings_keeps}
 use Rattle.state.specs.Tables.{Tables, routed}
 use Rattle.state.specs.Rules.{start_ok}
 use Rattle.state.specs.Keeps.{RouteOk, ProtectedOk, RowOk}
-use Rattle.state.specs.KeepsLaws.{both, route_kept, route_keeps, protected_kept_lem, protected_keeps, row_kept, row_keeps}
+use Rattle.state.proofs.Settings.{both}
+use Rattle.state.proofs.KeepsLaws.{route_kept, route_keeps, protected_kept_lem, protected_keeps, row_kept, row_keeps}
 use Rattle.image_rules.specs.Written.{ground_in, fault_in, base_in, settings_with, route_in, protected_in, row_in, start_in}
 use Rattle.image_rules.specs.Kinds.{Kind, one, rows, is_single, sized, limit, rule, basics, route, protected, row_sized, fault_row, last_of_kinds, kind_of}
 

@@ -6,7 +6,7 @@ use Rattle.std.proofs.lemmas.Bool.{false≢true}
 use Rattle.std.proofs.lemmas.List.{map-append, length-map}
 use borrow.Author.Tests.{le-leb, lt-leb, ne_eqb, eqb-true, eqb-false}
 use Rattle.state.specs.Tables.{route_id, fault_id, routed}
-use Rattle.state.specs.KeepsLaws.{split}
+use Rattle.state.proofs.KeepsLaws.{split}
 use Rattle.image_rules.specs.Records.{le16, Record, cut, record_at, and_then, records_from}
 use Rattle.image_rules.specs.Written.{of_kind, last_or, value_in, ground_in, fault_in, base_in, row_id, route_in, protected_in, row_in, start_in, tables_of_records, starts_of_records, plus}
 use Rattle.image_rules.specs.Kinds.{Kind, one, rows, is_single, basics, kinds, last_of_kinds, kind_of, ids_in}

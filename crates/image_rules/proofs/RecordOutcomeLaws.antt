@@ -10,7 +10,8 @@ use borrow.Author.Tests.{le-leb, lt-leb, lt-ltb, le-ltb, eq-eqb, ne_eqb, leb-tru
 use Rattle.wire.specs.Check.{check, by}
 use Rattle.state.specs.Tables.{Tables}
 use Rattle.state.specs.Rules.{floor}
-use Rattle.state.specs.KeepsLaws.{split, both}
+use Rattle.state.proofs.KeepsLaws.{split}
+use Rattle.state.proofs.Settings.{both}
 use Rattle.image_rules.specs.Records.{Record}
 use Rattle.image_rules.specs.Written.{row_id, tables_of_records}
 use Rattle.image_rules.specs.Kinds.{Kind, is_single, sized, limit, rule, last_of_kinds, kind_of, ids_in}

@@ -8,7 +8,7 @@ use Rattle.state.specs.Tables.{Tables, route_id, fault_id, routed, padded, confi
 use Rattle.state.specs.Lookup.{Slots, Column}
 use Rattle.state.specs.KeepsLaws.{Few}
 use Rattle.state.specs.Sized.{Sized}
-use Rattle.state.specs.ArrayLaws.{padded_length, padded_take, padded_more, arrays_sized}
+use Rattle.state.proofs.ArrayLaws.{padded_length, padded_take, padded_more, arrays_sized}
 use Rattle.image_rules.specs.Records.{le16, Record}
 use Rattle.image_rules.specs.Written.{start_in, tables_of_records, starts_of_records}
 use Rattle.image_rules.specs.Kinds.{is_single, kind_of, ids_in}

@@ -7,7 +7,7 @@ use Rattle.state.specs.declared.types.Numbers.{Numbers}
 use Rattle.state.specs.declared.types.Config.{Config}
 use Rattle.state.specs.Tables.{Route, FaultRow, Tables, route_id, fault_id, args_of, padded, config_from, config_of}
 use Rattle.state.specs.KeepsLaws.{Few}
-use Rattle.state.specs.ArrayLaws.{padded_more, short_args, args_more}
+use Rattle.state.proofs.ArrayLaws.{padded_more, short_args, args_more}
 use Rattle.image_rules.specs.Records.{le16}
 use Rattle.image_rules.specs.Written.{route_in, row_in}
 use Rattle.image_rules.specs.Written.{settings_with, plus}

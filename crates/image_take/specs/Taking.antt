@@ -5,7 +5,7 @@ use Rattle.std.proofs.Common.{sym, ap, ◌∙◌, arith, leb-true, leb-false}
 use Rattle.state.specs.declared.types.Settings.{Settings}
 use Rattle.state.specs.declared.types.Config.{Config}
 use Rattle.state.specs.Tables.{Tables, routed}
-use Rattle.state.specs.KeepsLaws.{split}
+use Rattle.state.proofs.KeepsLaws.{split}
 use Rattle.image_rules.specs.Records.{Record}
 use Rattle.image_rules.specs.Written.{tables_of_records}
 use Rattle.image_rules.specs.Checks.{refusal_after, record_refusal, last_kind}

@@ -9,7 +9,7 @@ use Rattle.state.specs.declared.types.Config.{Config}
 use Rattle.state.specs.declared.types.Run.{Run}
 use Rattle.state.specs.Tables.{Tables, tables_of}
 use Rattle.state.specs.Test.{keeps_rules}
-use Rattle.state.specs.KeepsLaws.{split}
+use Rattle.state.proofs.KeepsLaws.{split}
 use Rattle.wire.specs.Bytes.{Bytes, part_bytes}
 use Rattle.image_rules.specs.Records.{Record, records_of}
 use Rattle.state.specs.Keeps.{Each}

@@ -19,7 +19,7 @@ use Rattle.state.specs.declared.types.Run.{Run}
 use Rattle.state.specs.Tables.{tables_of}
 use Rattle.state.specs.Test.{keeps_rules}
 use Rattle.state.specs.Keeps.{Keeps}
-use Rattle.state.specs.KeepsLaws.{kept, keeps}
+use Rattle.state.proofs.KeepsLaws.{kept, keeps}
 use Rattle.replay_rules.specs.Recording.{cut_short, event_in, event_refusal, events_of, first_refusal, bytes_in}
 use Rattle.replay_rules.specs.RecordPieces.{moved, unread}
 

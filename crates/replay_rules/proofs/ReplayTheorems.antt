@@ -11,7 +11,7 @@ use Rattle.state.specs.Tables.{Tables, routed, tables_of}
 use Rattle.state.specs.Test.{keeps_rules}
 use Rattle.state.specs.Rules.{member}
 use Rattle.state.specs.Keeps.{Each, RowOk}
-use Rattle.state.specs.KeepsLaws.{keeps}
+use Rattle.state.proofs.KeepsLaws.{keeps}
 use Rattle.image_rules.specs.Records.{Record, records_of}
 use Rattle.image_load.specs.Image.{load_of}
 use Rattle.image_load.proofs.LoadTheorems.{loaded_keeps}

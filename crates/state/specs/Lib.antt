@@ -6,6 +6,4 @@ pub mod Keeps
 pub mod Test
 pub mod KeepsLaws
 pub mod Lookup
-pub mod LookupLaws
 pub mod ArrayLaws
-pub mod Columns

@@ -4,7 +4,7 @@ use Rattle.std.proofs.Common.{sym, ◌∙◌, add-one, arith}
 use Rattle.std.proofs.Math.Bool.{and_assoc, and_comm}
 use mathlib.Core.List.{List, [], ◌∷◌, map, map-id}
 use Rattle.state.specs.Tables.{FaultRow, route_id, fault_id, listed, route_at, row_at}
-use Rattle.state.specs.ArrayLaws.{column_is, column_of}
+use Rattle.state.proofs.ArrayLaws.{column_is, column_of}
 use Rattle.state.specs.Rules.{member, route_ok, row_ok}
 use Rattle.state.specs.Test.{rising_all, all_zero, route_passes, protected_passes, row_passes, routes_kept, protected_kept, rows_kept, state_ok, states_ok}
 use Rattle.state_check.specs.Each.{each, rises, within, dest_ok, foreign}

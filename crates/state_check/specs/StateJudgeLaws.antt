@@ -9,12 +9,13 @@ use Rattle.state.specs.declared.types.Standing.{Standing}
 use Rattle.state.specs.declared.types.Run.{Run}
 use Rattle.state.specs.Tables.{FaultRow, route_id, fault_id, listed, route_at, row_at, tables_of, run_from}
 use Rattle.state.specs.Sized.{Sized, LentSized}
-use Rattle.state.specs.ArrayLaws.{column_of, routed_is}
+use Rattle.state.proofs.ArrayLaws.{column_of, routed_is}
 use Rattle.state.specs.Settings.{settings_ok}
 use Rattle.state.specs.Keeps.{Each}
 use Rattle.state.specs.Lookup.{Column}
 use Rattle.state.specs.Test.{rising_all, row_passes, all_zero, args_zero, routes_kept, rows_kept, rules_kept, counted, unused_zero, config_kept, arm_ok, state_ok, states_ok, run_kept, keeps_rules}
-use Rattle.state.specs.KeepsLaws.{split, both, rising_keeps, route_keeps, counts_keeps}
+use Rattle.state.proofs.KeepsLaws.{split, rising_keeps, route_keeps, counts_keeps}
+use Rattle.state.proofs.Settings.{both}
 use Rattle.state_check.specs.Each.{each}
 use Rattle.state_check.specs.Walks.{refuted, held}
 use Rattle.state_check.specs.TableParts.{argless, routes_part}

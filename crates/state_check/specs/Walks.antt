@@ -6,7 +6,7 @@ use Rattle.std.proofs.Math.Dec.{leb-zero}
 use Rattle.std.proofs.lemmas.Bool.{lt-leb, not-true, not-false}
 use Rattle.state.specs.Rules.{own}
 use Rattle.state.specs.Test.{all_zero, args_zero}
-use Rattle.state.specs.KeepsLaws.{split}
+use Rattle.state.proofs.KeepsLaws.{split}
 use Rattle.state_check.specs.Each.{each, rises, foreign}
 
 -- ---- the test `if !r` of a result r that is known

@@ -6,8 +6,8 @@ use Rattle.std.proofs.Math.Option.{Option, none, some}
 use Rattle.state.specs.Tables.{Route, route_id, listed, route_at}
 use Rattle.state.specs.Rules.{member}
 use Rattle.state.specs.Lookup.{place_in, Column}
-use Rattle.state.specs.LookupLaws.{is_member, no_member}
-use Rattle.state.specs.ArrayLaws.{listed_at, column_of}
+use Rattle.state.proofs.LookupLaws.{is_member, no_member}
+use Rattle.state.proofs.ArrayLaws.{listed_at, column_of}
 use Rattle.step_effects.specs.FaultStates.{enabled}
 use Rattle.step_answers.specs.declared.own.Own.{Own}
 use Rattle.step_answers.specs.Answers.{blocked, own_answer, route_answer, answer_for, fault_answer}

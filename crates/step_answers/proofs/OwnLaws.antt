@@ -9,7 +9,7 @@ use Rattle.std.proofs.Math.Dec.{eqb}
 use borrow.Author.Tests.{eq-eqb, ne_eqb, le-leb, lt-leb, leb-true}
 use Rattle.wire.specs.Check.{check}
 use Rattle.state.specs.Rules.{own}
-use Rattle.state.specs.KeepsLaws.{both}
+use Rattle.state.proofs.Settings.{both}
 use Rattle.step_effects.specs.FaultStates.{place_of, is_place}
 use Rattle.step_answers.specs.declared.own.Own.{Own}
 use Rattle.step_answers.specs.declared.own.Own.TheVariants.{Arm, ResetCounters, NoOp, NoOpWithArgument, Enable, Disable, Clear, ClearAll}

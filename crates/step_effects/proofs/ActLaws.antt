@@ -10,7 +10,7 @@ use Rattle.state.specs.Tables.{FaultRow}
 use Rattle.state.specs.Rules.{member}
 use Rattle.state.specs.Keeps.{Rising}
 use Rattle.state.specs.Lookup.{place_in, Slots}
-use Rattle.state.specs.LookupLaws.{count, found_member, stands_there, place_only}
+use Rattle.state.proofs.LookupLaws.{count, found_member, stands_there, place_only}
 use Rattle.step_effects.specs.FaultStates.{row_after, within, place_of, is_place, row_for, onward, latched_by}
 
 -- ---- which place a fault id means

@@ -8,11 +8,11 @@ use Rattle.state.specs.declared.types.Run.{Run}
 use Rattle.state.specs.Tables.{FaultRow, fault_id, routed, row_at, tables_of}
 use Rattle.state.specs.Rules.{member}
 use Rattle.state.specs.Keeps.{Each, RowOk, Keeps}
-use Rattle.state.specs.KeepsLaws.{member_kept}
+use Rattle.state.proofs.KeepsLaws.{member_kept}
 use Rattle.state.specs.Sized.{Sized}
 use Rattle.state.specs.Lookup.{place_in, Slots}
-use Rattle.state.specs.ArrayLaws.{listed_at, rows_count, fault_ids_are, routed_is}
-use Rattle.state.specs.Columns.{route_column, protected_column, fault_column}
+use Rattle.state.proofs.ArrayLaws.{listed_at, rows_count, fault_ids_are, routed_is}
+use Rattle.state.proofs.Columns.{route_column, protected_column, fault_column}
 use Rattle.step_effects.specs.FaultStates.{no_row, meant}
 use Rattle.step_effects.proofs.ActLaws.{place_below, place_past}
 use Rattle.step_answers.specs.AnswerLaws.{Lent}

@@ -18,7 +18,7 @@ use Rattle.state.specs.declared.types.Standing.{Standing}
 use Rattle.state.specs.Tables.{fault_id, routed, tables_of, with_arm, run_from}
 use Rattle.state.specs.Rules.{member}
 use Rattle.state.specs.Lookup.{place_in}
-use Rattle.state.specs.ArrayLaws.{routed_is}
+use Rattle.state.proofs.ArrayLaws.{routed_is}
 use Rattle.step_rules.specs.declared.types.Moved.{Moved}
 use Rattle.step_rules.specs.declared.types.Decision.{Decision}
 use Rattle.step_arm.specs.Arming.{arm_after}

@@ -8,9 +8,9 @@ use Rattle.state.specs.declared.types.Standing.{Standing}
 use Rattle.state.specs.declared.types.Run.{Run}
 use Rattle.state.specs.Tables.{tables_of, with_arm, with_counts, run_from}
 use Rattle.state.specs.Keeps.{Keeps}
-use Rattle.state.specs.KeepsLaws.{few_counted}
+use Rattle.state.proofs.KeepsLaws.{few_counted}
 use Rattle.state.specs.Sized.{Sized, SizedRun}
-use Rattle.state.specs.Columns.{fault_column, route_column, states_small}
+use Rattle.state.proofs.Columns.{fault_column, route_column, states_small}
 use Rattle.step_arm.specs.declared.Ticked.{Ticked}
 use Rattle.step_arm.specs.Arming.{ticked_by}
 use Rattle.step_effects.specs.Counters.{moved_counts, fault_counts}

@@ -1,8 +1,8 @@
 -- `lent_keeps`: each part in its turn, and false where one fails.
 use Rattle.std.specs.Prelude.{not}
 use Rattle.std.proofs.Common.{sym, ap, ◌∙◌, arith}
-use Rattle.state.specs.Settings.{settings_keeps}
-use Rattle.state.specs.KeepsLaws.{counts_keeps}
+use Rattle.state.proofs.Settings.{settings_keeps}
+use Rattle.state.proofs.KeepsLaws.{counts_keeps}
 use Rattle.state_check.specs.StateJudgeLaws.{refused, passed, judged, routes_rise, zero_behind}
 use Rattle.state_check.proofs.lent_keeps.Goals as goal
 

@@ -1,6 +1,6 @@
 -- `holds`: a place before the end is a member's.
 use Rattle.std.proofs.Common.{arith}
-use Rattle.state_lookup.specs.Hopping.{half_below, is_there}
+use Rattle.state_lookup.proofs.Hopping.{half_below, is_there}
 use Rattle.state_lookup.proofs.holds.Goals as goal
 
 pub returns : goal.returns

@@ -1,6 +1,6 @@
 -- `search`: the hops that are left lead where all of them do.
 use Rattle.std.proofs.Common.{arith}
-use Rattle.state_lookup.specs.Hopping.{not_taken, taken, other, here}
+use Rattle.state_lookup.proofs.Hopping.{not_taken, taken, other, here}
 use Rattle.state_lookup.proofs.search.Goals as goal
 
 pub loop-step-preserved-then-x-id : goal.loop-step-preserved-then-x-id

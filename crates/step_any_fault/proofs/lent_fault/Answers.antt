@@ -1,6 +1,6 @@
 -- `lent_fault`: a state that breaks its rules, too little room, or the inner step.
 use Rattle.std.proofs.Common.{sym, ◌∙◌}
-use Rattle.state.specs.KeepsLaws.{keeps}
+use Rattle.state.proofs.KeepsLaws.{keeps}
 use Rattle.step_rules.proofs.MovedOn.{lend_rows}
 use Rattle.step_rules.proofs.LentSteps.{fault_breaks, fault_cramped, fault_leaves}
 use Rattle.step_any_fault.proofs.lent_fault.Goals as goal

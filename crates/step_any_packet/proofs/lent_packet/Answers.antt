@@ -1,6 +1,6 @@
 -- `lent_packet`: a state that breaks its rules, too little room, or the inner step.
 use Rattle.std.proofs.Common.{sym, ◌∙◌}
-use Rattle.state.specs.KeepsLaws.{keeps}
+use Rattle.state.proofs.KeepsLaws.{keeps}
 use Rattle.step_rules.proofs.Found.{lend}
 use Rattle.step_rules.proofs.MovedOn.{lend_states}
 use Rattle.step_rules.proofs.LentSteps.{packet_breaks, packet_cramped, packet_leaves}

@@ -1,6 +1,6 @@
 -- `responding`: no row, a row that is not enabled, or the response of the row at the place found.
 use Rattle.std.proofs.Common.{◌<◌, refl, arith}
-use Rattle.state.specs.LookupLaws.{member_below}
+use Rattle.state.proofs.LookupLaws.{member_below}
 use Rattle.step_rules.proofs.FaultMovedLaws.{responds_34, responds_13, responds_10}
 use Rattle.step_fault.proofs.responding.Goals as goal
 

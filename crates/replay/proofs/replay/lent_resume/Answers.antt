@@ -1,6 +1,6 @@
 -- `lent_resume`: a state that breaks its rules, or the loop.
 use Rattle.std.proofs.Common.{sym, ◌∙◌}
-use Rattle.state.specs.KeepsLaws as state
+use Rattle.state.proofs.KeepsLaws as state
 use Rattle.replay_rules.proofs.ReplayLaws.{breaks, keeps}
 use Rattle.replay.proofs.replay.lent_resume.Goals as goal
 

@@ -7,7 +7,7 @@ use Rattle.state.specs.Tables.{FaultRow}
 use Rattle.state.specs.Keeps.{AllZero, StatesOk, Keeps}
 use Rattle.state.specs.Sized.{Sized}
 use Rattle.state.specs.Lookup.{Column}
-use Rattle.state.specs.ArrayLaws.{routes_count, rows_count, routed_is, fault_ids_are}
+use Rattle.state.proofs.ArrayLaws.{routes_count, rows_count, routed_is, fault_ids_are}
 
 module _ {c : Config} {run : Run} (k : Keeps c run) (s : Sized c) where
   pub route_column : Column 128 c.routeids c.numbers.nroutes

@@ -1,0 +1,5 @@
+pub mod ArrayLaws
+pub mod Columns
+pub mod KeepsLaws
+pub mod LookupLaws
+pub mod Settings

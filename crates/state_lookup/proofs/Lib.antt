@@ -1,0 +1,3 @@
+pub mod Hopping
+pub mod RowsRead
+pub mod SearchLaws
