@@ -1,14 +1,14 @@
 // The packet builder: a telecommand packet from its fields, in the form that the judge accepts.
 #![tactic(auto)]
 
-ghost use Rattle.std.specs.Prelude.{◌≡◌, length};
-ghost use Rattle.wire.specs.Put.{over};
+ghost use Rattle.std.specs.Prelude.{◌≡◌, ◌+◌, ◌++◌, ◌≤◌, length};
+ghost use Rattle.wire.specs.Put.{put_at, zero_bytes, over};
 ghost use Rattle.build_rules.specs.Build.{given, packet_of, built_of, built_output};
 ghost use Rattle.build_rules.specs.BuildLaws.{unsummed};
 ghost use Rattle.build_rules.specs.BuildOutcome.{Ready};
 
 use build_rules::types::Built;
-use wire::word::{high, low};
+use wire::word::{byte_at, high, low};
 
 // Builds the packet at the start of `out`: 0 and the bytes written, or the first refusal in the order of the numbers and 0.
 // Later bytes stay, and a refusal writes nothing.
@@ -70,6 +70,19 @@ fn fill(apid: u16, count: u16, id: u16, args: &[u8], pads: u16, out: &mut [u8])
     let second = [pads as u8, 0, high(id), low(id)];
     wire::put::bytes(out, 0, &header);
     wire::put::bytes(out, 6, &second);
-    wire::put::bytes(out, 10, args);
-    wire::put::zeros(out, 10 + n, pads as usize);
+    padded(out, 10, args, pads as usize);
+}
+
+// Puts all of `s` and `n` zeros behind it into `out` from place `at` on; every other byte stays. It is one loop, since a loop of
+// zeros by itself would become a call of memset, and the builder with that call takes more of the stack than the C header says.
+fn padded(out: &mut [u8], at: usize, s: &[u8], n: usize)
+    requires { at + (length s.now + n) ≤ length out.old }
+    ensures { out.new ≡ put_at out.old at (s.now ++ zero_bytes n) }
+{
+    let end = s.len() + n;
+    let mut k = 0;
+    while k < end {
+        out[at + k] = byte_at(s, k);
+        k += 1;
+    }
 }
