@@ -6,3 +6,4 @@ pub mod RecordingLaws
 pub mod ReplayLaws
 pub mod ReplayTheorems
 pub mod ReplayWalk
+pub mod PlainReplies

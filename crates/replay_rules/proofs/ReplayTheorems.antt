@@ -24,6 +24,7 @@ use Rattle.history.proofs.ArmRule.{plain_arm_rule}
 use Rattle.replay_rules.specs.Recording.{cut_short, other_kind, wrong_length, output_full, event_sized, kind_refusal, event_refusal, events_of, first_refusal, reply_bytes, fitting, head_size, event_room}
 use Rattle.replay_rules.specs.Replay.{stop_of, path_replies, idle, piece_of, piece_bytes, plain_replies}
 use Rattle.replay_rules.specs.ReplayTheorems.{reply_at}
+use Rattle.replay_rules.proofs.PlainReplies.{plain_at}
 
 -- ---- the answers that find room
 
@@ -94,10 +95,6 @@ fitting_at room (x ∷ xs) k l = go (leb event_room room) k l (λ k l. fitting_a
     go true zero l ih = refl
     go true (suc k) l ih = ih k (omega arith)
     go false k l ih = absurd (omega arith)
-
-plain_at : (image : List Record) (h before : List Event) (e : Event) (later : List Event) → reply_at (replies image h (before ++ (e ∷ later))) (length before) ≡ reply image (latest_first h before) e
-plain_at image h [] e later = refl
-plain_at image h (x ∷ before) e later = plain_at image (x ∷ h) before e later
 
 module _ (image recording : List ℕ) (room : ℕ) (before later : List Event) where
   -- the event behind `before`, where an answer to it was given, has the plain reply that the events before it ask for
