@@ -6,7 +6,7 @@ cd "$(dirname "$0")/.."
 log=target/ci.log
 
 # what the prover says where a fact fails; whatever else it says first is taken for a broken edit
-fact='the two (types|indices) |^expected type |^`omega`: .* does not follow |^give a proof of that as the last argument|^list the missing equation |^`search`: no proof of |^`search` found no proof \(|^it is not proved that |^this `[^`]*` lands at index '
+fact='the two (types|indices|sides) |^computed as a goal is, one side reads |^expected type |^`omega`: .* does not follow |^give a proof of that as the last argument|^list the missing equation |^`search`: no proof of |^`search` found no proof \(|^it is not proved that |^this `[^`]*` lands at index '
 # a proof step that finds nothing to do says less of the fact: such an edit is let through, and named
 blunt='^`rw`: no occurrence |^`simp`: no equation of the list has an instance '
 # and what no edit may lead to, wherever it stands
