@@ -1,20 +1,20 @@
 -- What callers use of the builder's definitions: the statements of `BuildOutcome` fit the computed refusal, both ways; and what is
 -- handed back and left in the output in each case.
 use Rattle.std.specs.Prelude.{◌≡◌, refl, List, [], ◌∷◌, ◌++◌, ℕ, ◌+◌, ◌/◌, ◌%◌, length, take, drop, set, leb}
-use Rattle.std.proofs.Common.{sym, ap, ◌∙◌, arith, length-append, take_at}
+use Rattle.std.proofs.Common.{sym, ap, ◌∙◌, arith, length-append, take_at, zero, suc}
 use Rattle.std.proofs.lemmas.List.{length-replicate}
-use Rattle.std.specs.Int.Bits.{xor_zero_l}
+use Rattle.std.specs.Int.Bits.{xor_zero_l, xor_zero_r}
 use borrow.Author.Tests.{leb-true, leb-false, le-leb, lt-leb, eq-eqb, ne_eqb}
 use Rattle.wire.specs.Check.{by}
 use Rattle.wire.specs.Put.{put_at, zero_bytes, over}
 use Rattle.wire.specs.PutLaws.{put_first, put_behind}
 use Rattle.wire.specs.Xor.{xor_all}
-use Rattle.wire.specs.XorLaws.{xor_among}
+use Rattle.wire.specs.XorLaws.{xor_among, xor_append}
 use Rattle.packet_rules.specs.HeaderBytes.{header_bytes}
 use Rattle.build_rules.specs.declared.types.Built.{Built}
 use Rattle.build_rules.specs.Build.{Fields, length_field_for, size_of, front, back, packet_of, build_refusal, built_of, built_output}
 use Rattle.build_rules.specs.BuildOutcome.{Fits, Ready, BuildOutcome, high_apid, high_count, many_args, many_pads, small_output, built}
-use Rattle.build_rules.specs.BuildLaws.{unsummed}
+use Rattle.build_rules.specs.BuildLaws.{unsummed, unpadded}
 
 -- every answer says what the table has of it
 pub build_outcome : (f : Fields) (room : ℕ) → BuildOutcome f room (build_refusal f room)
@@ -61,26 +61,58 @@ packet_size f = simp (length-append, length-replicate) (omega arith)
 unsummed_size : (f : Fields) → length (unsummed f) ≡ size_of f
 unsummed_size f = simp (length-append, length-replicate) (omega arith)
 
+-- the XOR of bytes with a zero for the checksum among them is that of the others
+gathered : (f : Fields) (rest out o : List ℕ) (n x : ℕ) → o ≡ over (front f ++ 0 ∷ rest) out → length (front f ++ 0 ∷ rest) ≡ n → x ≡ xor_all (take n o)
+    → x ≡ xor_all (front f ++ rest)
+gathered f rest out o n x eo en ex =
+    ex
+    ∙ ap (λ (r : List ℕ). xor_all (take n r)) eo
+    ∙ ap xor_all (take_at (front f ++ 0 ∷ rest) (drop (length (front f ++ 0 ∷ rest)) out) n en)
+    ∙ xor_among (front f) 0 rest
+    ∙ xor_zero_l (xor_all (front f ++ rest))
+
 pub summed : (f : Fields) (out o : List ℕ) (n x : ℕ) → o ≡ over (unsummed f) out → n ≡ size_of f → x ≡ xor_all (take n o)
     → set o 7 x ≡ over (packet_of f) out
 unfolding packet_of
-summed f out o n x eo en ex =
-    let all : take n (over (unsummed f) out) ≡ unsummed f = take_at (unsummed f) (drop (length (unsummed f)) out) n (unsummed_size f ∙ sym en) in
-    let sum : x ≡ xor_all (front f ++ back f) =
-    ex ∙ ap (λ (r : List ℕ). xor_all (take n r)) eo ∙ ap xor_all all ∙ xor_among (front f) 0 (back f) ∙ xor_zero_l (xor_all (front f ++ back f)) in
-    rw (eo, sum)
+summed f out o n x eo en ex = rw (eo, gathered f (back f) out o n x eo (unsummed_size f ∙ sym en) ex)
 
--- header, the four bytes behind it, arguments and pads put one behind the other: each premise is what a call leaves
+-- zeros leave the XOR as it is
+xor_zeros : (n : ℕ) → xor_all (zero_bytes n) ≡ 0
+unfolding xor_all
+xor_zeros zero = refl
+xor_zeros (suc n) = xor_zero_l (xor_all (zero_bytes n)) ∙ xor_zeros n
+
+xor_padded : (s : List ℕ) (n : ℕ) → xor_all (s ++ zero_bytes n) ≡ xor_all s
+xor_padded s n = xor_append s (zero_bytes n) ∙ rw (xor_zeros n) (xor_zero_r (xor_all s))
+
+-- so the XOR of what stands before the pads goes into the place of its zero, and the pads come behind
+pub padded : (f : Fields) (out o o₂ : List ℕ) (n x : ℕ) → o ≡ over (unpadded f) out → n ≡ 10 + length f.args → x ≡ xor_all (take n o)
+    → o₂ ≡ put_at (set o 7 x) n (zero_bytes f.pads) → o₂ ≡ over (packet_of f) out
+unfolding packet_of
+padded f out o o₂ n x eo en ex ez =
+    let two = f.id / 256 ∷ f.id % 256 ∷ f.args in
+    let long : length (unpadded f) ≡ n = omega arith in
+    let sum : x ≡ xor_all (front f ++ back f) = gathered f two out o n x eo long ex ∙ sym (xor_padded (front f ++ two) f.pads) in
+    ez ∙ rw (eo, sum) (put_behind out (front f ++ xor_all (front f ++ back f) ∷ two) (zero_bytes f.pads) n long)
+
+-- header, the four bytes behind it and the arguments put one behind the other: each premise is what a call leaves
+pub filled_unpadded : (f : Fields) (out o₁ o₂ o₃ header : List ℕ) (hi lo : ℕ)
+    → header ≡ header_bytes 1 1 f.apid f.count (length_field_for f) → hi ≡ f.id / 256 → lo ≡ f.id % 256
+    → o₁ ≡ put_at out 0 header → o₂ ≡ put_at o₁ 6 (f.pads ∷ 0 ∷ hi ∷ lo ∷ []) → o₃ ≡ put_at o₂ 10 f.args
+    → o₃ ≡ over (unpadded f) out
+filled_unpadded f out o₁ o₂ o₃ header hi lo eh ei el e₁ e₂ e₃ =
+    let six = header_bytes 1 1 f.apid f.count (length_field_for f) in
+    let four = f.pads ∷ 0 ∷ f.id / 256 ∷ f.id % 256 ∷ [] in
+    let a₁ : o₁ ≡ over six out = e₁ ∙ rw eh (put_first out six) in
+    let a₂ : o₂ ≡ over (six ++ four) out = e₂ ∙ rw (a₁, ei, el) (put_behind out six four 6 refl) in
+    e₃ ∙ rw a₂ (put_behind out (six ++ four) f.args 10 refl)
+
+-- and the pads behind them
 pub filled : (f : Fields) (out o₁ o₂ o₃ o₄ header : List ℕ) (hi lo : ℕ)
     → header ≡ header_bytes 1 1 f.apid f.count (length_field_for f) → hi ≡ f.id / 256 → lo ≡ f.id % 256
     → o₁ ≡ put_at out 0 header → o₂ ≡ put_at o₁ 6 (f.pads ∷ 0 ∷ hi ∷ lo ∷ []) → o₃ ≡ put_at o₂ 10 f.args
     → o₄ ≡ put_at o₃ (10 + length f.args) (zero_bytes f.pads)
     → o₄ ≡ over (unsummed f) out
 filled f out o₁ o₂ o₃ o₄ header hi lo eh ei el e₁ e₂ e₃ e₄ =
-    let six = header_bytes 1 1 f.apid f.count (length_field_for f) in
-    let four = f.pads ∷ 0 ∷ f.id / 256 ∷ f.id % 256 ∷ [] in
-    let a₁ : o₁ ≡ over six out = e₁ ∙ rw eh (put_first out six) in
-    let a₂ : o₂ ≡ over (six ++ four) out = e₂ ∙ rw (a₁, ei, el) (put_behind out six four 6 refl) in
-    let a₃ : o₃ ≡ over (six ++ four ++ f.args) out = e₃ ∙ rw a₂ (put_behind out (six ++ four) f.args 10 refl) in
-    let long : length (six ++ four ++ f.args) ≡ 10 + length f.args = omega arith in
-    e₄ ∙ rw a₃ (put_behind out (six ++ four ++ f.args) (zero_bytes f.pads) (10 + length f.args) long)
+    let long : length (unpadded f) ≡ 10 + length f.args = omega arith in
+    e₄ ∙ rw (filled_unpadded f out o₁ o₂ o₃ header hi lo eh ei el e₁ e₂ e₃) (put_behind out (unpadded f) (zero_bytes f.pads) (10 + length f.args) long)
