@@ -35,6 +35,7 @@ while IFS= read -r word; do
         [A-Z]*) [ -e "crates/$crate/specs/$name.antt" ] || [ -e "crates/$crate/proofs/$name.antt" ] || bad "$word is no file of definitions or theorems" ;;
         *) [ -e "crates/$crate/must-fail/$name.edit" ] || bad "$word is no must-fail edit" ;;
         esac ;;
+    From\<*\>) grep -qF "impl $word for " crates/*/src/*.rt || bad "$word is named, and nothing has that conversion" ;;
     *.rt | *.antt | *.sh | *.h) ;;                                                   # named beside its crate
     *) known "$word" || [ -d "crates/$word" ] || bad "$word is named, and nothing has that name" ;;
     esac
@@ -56,7 +57,7 @@ while IFS= read -r line; do bad "$line"; done <"$room/long"
 # public functions of the libraries: programs have none
 for source in crates/*/src/*.rt; do
     [ -e "$(dirname "$source")/main.rt" ] && continue
-    grep -oE '^pub (extern "C" )?fn [a-z_0-9]+' "$source" | awk '{ print $NF }' | while IFS= read -r name; do
+    grep -oE '^( {4})?pub (extern "C" )?fn [a-z_0-9]+' "$source" | awk '{ print $NF }' | while IFS= read -r name; do
         grep -qE "(^|[^a-z_])$name([^a-z_]|\$)" "$room/words" || echo "$name of $source"
     done
 done >"$room/missing"

@@ -83,10 +83,10 @@ while IFS= read -r line; do bad "$line"; done <"$room/missing"
 # the public functions of the libraries: how many, and how many of them ask for something; these, and no others, are marked
 for source in crates/*/src/*.rt; do
     [ -e "$(dirname "$source")/main.rt" ] || awk -v file="$source" '
-        /^\/\/ internal:/ { marked = 1 }
-        /^(pub |pub\(crate\) )?(extern "C" )?fn / { public = /^pub /; head = 1; asks = 0; name = $0; sub(/.*fn /, "", name); sub(/[^a-z_0-9].*/, "", name) }
-        head && /^    requires/ { asks = 1 }
-        head && /^[{]|^[^ ].* [{]$/ { if (public) print (asks ? "internal" : "open"), (marked == asks ? "" : name " of " file); head = 0; marked = 0 }' "$source"
+        /^ *\/\/ internal:/ { marked = 1 }
+        /^(    )?(pub |pub\(crate\) )?(extern "C" )?fn / { public = /^(    )?pub /; head = 1; asks = 0; name = $0; sub(/.*fn /, "", name); sub(/[^a-z_0-9].*/, "", name) }
+        head && /^ +requires/ { asks = 1 }
+        head && /^(    )?[{]$|^(    )?[^ ].* [{]$/ { if (public) print (asks ? "internal" : "open"), (marked == asks ? "" : name " of " file); head = 0; marked = 0 }' "$source"
 done >"$room/functions"
 while read -r _ wrong; do
     [ -z "$wrong" ] || bad "$wrong has a requires and no mark, or a mark and no requires"

@@ -3,11 +3,11 @@
 
 ghost use Rattle.std.specs.Prelude.{◌≡◌, length};
 ghost use Rattle.wire.specs.Put.{over};
-ghost use Rattle.build_rules.specs.Build.{given, packet_of, built_of, built_output};
+ghost use Rattle.build_rules.specs.Build.{given, packet_of, handed_back, built_of, built_output};
 ghost use Rattle.build_rules.specs.BuildLaws.{unpadded};
 ghost use Rattle.build_rules.specs.BuildOutcome.{Ready};
 
-use build_rules::types::Built;
+use build_rules::types::{Built, Unbuildable};
 use wire::word::{high, low};
 
 // Builds the packet at the start of `out`: 0 and the bytes written, or the first refusal in the order of the numbers and 0.
@@ -16,37 +16,49 @@ pub fn build(apid: u16, count: u16, id: u16, args: &[u8], pads: u16, out: &mut [
     ensures told { result ≡ built_of (given apid count id args.now pads) (length out.old) }
     ensures output { out.new ≡ built_output (given apid count id args.now pads) out.old }
 {
-    if 2047 < apid {
-        return refused(40);
-    }
-    if 16383 < count {
-        return refused(41);
-    }
-    if 255 < args.len() {
-        return refused(42);
-    }
-    if 127 < pads {
-        return refused(43);
-    }
-    let size = 10 + args.len() + pads as usize;
-    if out.len() < size {
-        return refused(44);
-    }
-    write(apid, count, id, args, pads, out);
-    Built {
-        answer: 0,
-        written: size as u16,
+    match written(apid, count, id, args, pads, out) {
+        Ok(size) => Built {
+            answer: 0,
+            written: size,
+        },
+        Err(r) => Built {
+            answer: r.into(),
+            written: 0,
+        },
     }
 }
 
-// A refusal: its number, and 0 bytes written.
-fn refused(n: u8) -> Built
-    ensures { result ≡ record { answer = n; written = 0 } }
+// The size of the packet, which is written; or the first refusal, which writes nothing. The fields go on one by one and not as one
+// struct: that would lie in memory, so `tz_build` would take 104 bytes of stack, and 18 to 48 instructions more.
+fn written(
+    apid: u16,
+    count: u16,
+    id: u16,
+    args: &[u8],
+    pads: u16,
+    out: &mut [u8],
+) -> Result<u16, Unbuildable>
+    ensures told { handed_back result ≡ built_of (given apid count id args.now pads) (length out.old) }
+    ensures output { out.new ≡ built_output (given apid count id args.now pads) out.old }
 {
-    Built {
-        answer: n,
-        written: 0,
+    if 2047 < apid {
+        return Err(Unbuildable::ApidTooHigh);
     }
+    if 16383 < count {
+        return Err(Unbuildable::CountTooHigh);
+    }
+    if 255 < args.len() {
+        return Err(Unbuildable::TooManyArguments);
+    }
+    if 127 < pads {
+        return Err(Unbuildable::TooManyPads);
+    }
+    let size = 10 + args.len() + pads as usize;
+    if out.len() < size {
+        return Err(Unbuildable::OutputTooSmall);
+    }
+    write(apid, count, id, args, pads, out);
+    Ok(size as u16)
 }
 
 // Writes the packet of fields that fit: all before the pads with a zero for the checksum, then the XOR of that in its place, and

@@ -1,6 +1,6 @@
 -- What callers use of the builder's definitions: the statements of `BuildOutcome` fit the computed refusal, both ways; and what is
 -- handed back and left in the output in each case.
-use Rattle.std.specs.Prelude.{◌≡◌, refl, List, [], ◌∷◌, ◌++◌, ℕ, ◌+◌, ◌/◌, ◌%◌, length, take, drop, set, leb}
+use Rattle.std.specs.Prelude.{◌≡◌, refl, List, [], ◌∷◌, ◌++◌, ℕ, ◌+◌, ◌/◌, ◌%◌, length, take, drop, set, leb, Err}
 use Rattle.std.proofs.Common.{sym, ap, ◌∙◌, arith, length-append, take_at, zero, suc}
 use Rattle.std.proofs.lemmas.List.{length-replicate}
 use Rattle.std.specs.Int.Bits.{xor_zero_l, xor_zero_r}
@@ -12,7 +12,9 @@ use Rattle.wire.specs.Xor.{xor_all}
 use Rattle.wire.specs.XorLaws.{xor_among, xor_append}
 use Rattle.packet_rules.specs.HeaderBytes.{header_bytes}
 use Rattle.build_rules.specs.declared.types.Built.{Built}
-use Rattle.build_rules.specs.Build.{Fields, length_field_for, size_of, front, back, packet_of, build_refusal, built_of, built_output}
+use Rattle.build_rules.specs.declared.types.Unbuildable.{Unbuildable}
+use Rattle.build_rules.specs.declared.types.Unbuildable.TheVariants.{ApidTooHigh, CountTooHigh, TooManyArguments, TooManyPads, OutputTooSmall}
+use Rattle.build_rules.specs.Build.{Fields, length_field_for, size_of, front, back, packet_of, build_refusal, number_of, handed_back, built_of, built_output}
 use Rattle.build_rules.specs.BuildOutcome.{Fits, Ready, BuildOutcome, high_apid, high_count, many_args, many_pads, small_output, built}
 use Rattle.build_rules.specs.BuildLaws.{unsummed, unpadded}
 
@@ -37,6 +39,14 @@ build_only (many_pads a c n h) = simp (le-leb _ _ a, le-leb _ _ c, le-leb _ _ n,
 build_only (small_output f h) = simp (le-leb _ _ f.apid_fits, le-leb _ _ f.count_fits, le-leb _ _ f.few_args, le-leb _ _ f.few_pads, lt-leb _ _ h)
 build_only (built f h) = simp (le-leb _ _ f.apid_fits, le-leb _ _ f.count_fits, le-leb _ _ f.few_args, le-leb _ _ f.few_pads, le-leb _ _ h)
 
+-- none of the refusals has the number 0, which tells that nothing is refused
+number_not_0 : (r : Unbuildable) → number_of r ≡ 0 → ⊥
+number_not_0 ApidTooHigh e = absurd (omega arith)
+number_not_0 CountTooHigh e = absurd (omega arith)
+number_not_0 TooManyArguments e = absurd (omega arith)
+number_not_0 TooManyPads e = absurd (omega arith)
+number_not_0 OutputTooSmall e = absurd (omega arith)
+
 -- what is handed back and left in the output: of a refusal, and of a packet that was written
 module _ (f : Fields) (out : List ℕ) where
   pub build_refused : (n : ℕ) (r : Built) → r ≡ record { answer = n; written = 0 } → BuildOutcome f (length out) n → (n ≡ 0 → ⊥)
@@ -52,6 +62,11 @@ module _ (f : Fields) (out : List ℕ) where
   build_written o e ready =
       let zero_is = eq-eqb (build_refusal f (length out)) 0 (sym (build_only (built ready.fits ready.room))) in
       (simp zero_is, e ∙ simp zero_is)
+
+  -- so of a refusal by its name
+  pub build_told : (r : Unbuildable) → BuildOutcome f (length out) (number_of r)
+      → (handed_back (Err r) ≡ built_of f (length out)) × (out ≡ built_output f out)
+  build_told r o = build_refused (number_of r) _ refl o (number_not_0 r)
 
 -- the packet is as long as its parts
 pub packet_size : (f : Fields) → length (packet_of f) ≡ size_of f

@@ -1,11 +1,13 @@
 -- Document 02, wish 2, the packet builder: the packet that its fields mean, the refusals in their order, and what is left in the
 -- output.
-use Rattle.std.specs.Prelude.{cond, List, [], ◌∷◌, ◌++◌, ℕ, ◌+◌, ◌/◌, ◌%◌, leb, eqb, length}
+use Rattle.std.specs.Prelude.{cond, List, [], ◌∷◌, ◌++◌, ℕ, ◌+◌, ◌/◌, ◌%◌, leb, eqb, length, Result, Ok, Err}
 use Rattle.wire.specs.Check.{check}
 use Rattle.wire.specs.Put.{zero_bytes, over}
 use Rattle.wire.specs.Xor.{xor_all}
 use Rattle.packet_rules.specs.HeaderBytes.{header_bytes}
 use Rattle.build_rules.specs.declared.types.Built.{Built}
+use Rattle.build_rules.specs.declared.types.Unbuildable.{Unbuildable}
+use Rattle.build_rules.specs.declared.types.Unbuildable.TheVariants.{ApidTooHigh, CountTooHigh, TooManyArguments, TooManyPads, OutputTooSmall}
 
 -- APID, sequence count, command id, arguments and a number of zero pad bytes
 pub record Fields : Type 0 where
@@ -50,7 +52,20 @@ build_refusal f room =
     (check (leb f.pads 127) 43
     (check (leb (size_of f) room) 44 0))))
 
--- 0 and the bytes written, or the refusal and 0
+-- the builder's table of answers: the number of each refusal
+abbrev pub number_of : Unbuildable → ℕ
+number_of ApidTooHigh = 40
+number_of CountTooHigh = 41
+number_of TooManyArguments = 42
+number_of TooManyPads = 43
+number_of OutputTooSmall = 44
+
+-- what is handed back: 0 and the bytes written, or the number of the refusal and 0
+abbrev pub handed_back : Result ℕ Unbuildable → Built
+handed_back (Ok n) = record { answer = 0; written = n }
+handed_back (Err r) = record { answer = number_of r; written = 0 }
+
+-- 0 and the packet's size, or the refusal and 0
 unfoldable pub built_of : Fields → ℕ → Built
 built_of f room =
     cond (eqb (build_refusal f room) 0)

@@ -3,7 +3,7 @@
 // the header has a wrapper for each that takes a pointer to the configuration and one to the run.
 ghost use Rattle.std.specs.Prelude.{◌≡◌, length};
 ghost use Rattle.packet_rules.specs.Judge.{judge_of};
-ghost use Rattle.state.specs.Tables.{config_from};
+ghost use Rattle.state.specs.Tables.{config_from, config_of_lent};
 ghost use Rattle.step_effects.specs.Dispatch.{over};
 ghost use Rattle.replay_rules.specs.Replay.{replay_of, replay_bytes};
 ghost use Rattle.build_rules.specs.Build.{given, built_of, built_output};
@@ -14,7 +14,36 @@ use export_rules::types;
 use export_rules::types::{Handed, Loading, Part, Portion, SavedStanding};
 use packet_judge::judge::Judged;
 use replay_rules::types::Replayed;
-use state::types::Numbers;
+use state::types::{LentConfig, Numbers};
+
+// The columns that C lends, as one value.
+fn lent<'a>(
+    numbers: Numbers,
+    routeids: &'a [u16; 128],
+    dests: &'a [u8; 128],
+    protected: &'a [u16; 32],
+    faultids: &'a [u16; 32],
+    responses: &'a [u16; 32],
+    latching: &'a [u8; 32],
+    argcounts: &'a [u8; 32],
+    args: &'a [u8; 512],
+) -> LentConfig<'a>
+    ensures { config_of_lent result
+        ≡ config_from numbers routeids.now dests.now protected.now faultids.now
+        responses.now latching.now argcounts.now args.now }
+{
+    LentConfig {
+        numbers,
+        routeids,
+        dests,
+        protected,
+        faultids,
+        responses,
+        latching,
+        argcounts,
+        args,
+    }
+}
 
 // Which structs, signatures and numbers these are: the header's TZ_ABI. It moves with every change of one.
 #[unsafe(no_mangle)]
@@ -38,15 +67,15 @@ pub extern "C" fn tz_arguments(packet: &[u8]) -> Part
     ensures { result ≡ part_of packet.now }
 {
     let part = packet_judge::enquiry::arguments(packet);
-    if packet_judge::judge::refusal(packet) != 0 {
-        return Part {
+    match packet_judge::judge::refusal(packet) {
+        Ok(()) => Part {
+            offset: 10,
+            length: part.len(),
+        },
+        Err(_) => Part {
             offset: 0,
             length: part.len(),
-        };
-    }
-    Part {
-        offset: 10,
-        length: part.len(),
+        },
     }
 }
 
@@ -78,7 +107,7 @@ pub extern "C" fn tz_load(image: &[u8]) -> Loading
         answer: loaded.answer,
         offset: loaded.offset,
         config,
-        run: types::run_out(run),
+        run: run.into(),
     }
 }
 
@@ -107,21 +136,10 @@ pub extern "C" fn tz_lent_packet<'a>(
     if 1 < standing.armed {
         return types::step_refused(standing);
     }
-    types::step_out(step_any_packet::lent_packet(
-        numbers,
-        routeids,
-        dests,
-        protected,
-        faultids,
-        responses,
-        latching,
-        argcounts,
-        args,
-        types::standing_in(standing),
-        states,
-        packet,
-        out,
-    ))
+    let config = lent(
+        numbers, routeids, dests, protected, faultids, responses, latching, argcounts, args,
+    );
+    step_any_packet::lent_packet(&config, standing.into(), states, packet, out).into()
 }
 
 // The tick step. It leaves the fault states, which are lent to be judged.
@@ -147,19 +165,10 @@ pub extern "C" fn tz_lent_tick<'a>(
     if 1 < standing.armed {
         return types::step_refused(standing);
     }
-    types::step_out(step_any_tick::lent_tick(
-        numbers,
-        routeids,
-        dests,
-        protected,
-        faultids,
-        responses,
-        latching,
-        argcounts,
-        args,
-        types::standing_in(standing),
-        states,
-    ))
+    let config = lent(
+        numbers, routeids, dests, protected, faultids, responses, latching, argcounts, args,
+    );
+    step_any_tick::lent_tick(&config, standing.into(), states).into()
 }
 
 // The fault step.
@@ -187,21 +196,10 @@ pub extern "C" fn tz_lent_fault<'a>(
     if 1 < standing.armed {
         return types::step_refused(standing);
     }
-    types::step_out(step_any_fault::lent_fault(
-        numbers,
-        routeids,
-        dests,
-        protected,
-        faultids,
-        responses,
-        latching,
-        argcounts,
-        args,
-        types::standing_in(standing),
-        states,
-        fault,
-        out,
-    ))
+    let config = lent(
+        numbers, routeids, dests, protected, faultids, responses, latching, argcounts, args,
+    );
+    step_any_fault::lent_fault(&config, standing.into(), states, fault, out).into()
 }
 
 // A piece of a recording behind a state.
@@ -229,21 +227,10 @@ pub extern "C" fn tz_lent_resume<'a>(
     if 1 < standing.armed {
         return types::piece_refused(standing);
     }
-    types::piece_out(replay::replay::lent_resume(
-        numbers,
-        routeids,
-        dests,
-        protected,
-        faultids,
-        responses,
-        latching,
-        argcounts,
-        args,
-        types::standing_in(standing),
-        states,
-        recording,
-        out,
-    ))
+    let config = lent(
+        numbers, routeids, dests, protected, faultids, responses, latching, argcounts, args,
+    );
+    replay::replay::lent_resume(&config, standing.into(), states, recording, out).into()
 }
 
 // A whole recording under an image.

@@ -1,6 +1,6 @@
 -- A recording in pieces across the C boundary: a row of `tz_resume` calls, each on what the one before left unread and on the run
 -- that it handed back, gives the bytes and the run of one call on the whole.
-use Rattle.std.specs.Prelude.{◌≡◌, Bool, true, false, List, [], ◌∷◌, ◌++◌, ℕ, ◌+◌, take, drop}
+use Rattle.std.specs.Prelude.{◌≡◌, Bool, true, false, List, [], ◌∷◌, ◌++◌, ℕ, take, drop}
 use Rattle.std.proofs.Math.Path.{refl}
 use Rattle.std.proofs.Common.{sym, ap, subst, ◌∙◌}
 use Rattle.state.specs.declared.types.Config.{Config}

@@ -1,7 +1,7 @@
 // What crosses the C boundary where the path's own type can't. A caller may hand over a byte that is no bool, so the arm record
 // crosses with a number in its place. Columns and fault states are lent and cross as pointers; the rest goes by value.
 ghost use Rattle.std.specs.Prelude.{◌≡◌};
-ghost use Rattle.export_rules.specs.Boundary.{standing_inward, standing_outward, outward, handed_from, portion_from, left_outward, reached_outward, refused_left, refused_reached};
+ghost use Rattle.export_rules.specs.Boundary.{standing_inward, standing_outward, outward, left_outward, reached_outward, refused_left, refused_reached};
 
 use replay_rules::types::Reached;
 use state::types::{Arm, Config, Counts, Run, Standing};
@@ -42,7 +42,8 @@ pub struct Loading {
     pub run: Saved,
 }
 
-// What a step hands back; the fault states are left where they were lent.
+// What a step hands back; the fault states are left where they were lent. It and `Portion` are structs of their own beside `Left`
+// and `Reached`, since C takes no struct with a type parameter.
 #[repr(C)]
 #[derive(Clone, Copy)]
 pub struct Handed {
@@ -61,83 +62,93 @@ pub struct Portion {
     pub wrote: usize,
 }
 
-// The standing that C's stands for. This function and the next one alone know both forms.
-pub fn standing_in(standing: SavedStanding) -> Standing
-    ensures { result ≡ standing_inward standing }
-{
-    let arm = Arm {
-        armed: standing.armed == 1,
-        ticks: standing.ticks,
-    };
-    let counts = standing.counts;
-    Standing { arm, counts }
+// The standing that C's stands for. This conversion and the next one alone know both forms.
+impl From<SavedStanding> for Standing {
+    ghost from_gives = { λ saved standing. standing ≡ standing_inward saved };
+
+    fn from(saved: SavedStanding) -> Standing {
+        Standing {
+            arm: Arm {
+                armed: saved.armed == 1,
+                ticks: saved.ticks,
+            },
+            counts: saved.counts,
+        }
+    }
 }
 
 // A standing to be saved.
-pub fn standing_out(standing: Standing) -> SavedStanding
-    ensures { result ≡ standing_outward standing }
-{
-    let counts = standing.counts;
-    SavedStanding {
-        armed: standing.arm.armed as u8,
-        ticks: standing.arm.ticks,
-        counts,
+impl From<Standing> for SavedStanding {
+    ghost from_gives = { λ standing saved. saved ≡ standing_outward standing };
+
+    fn from(standing: Standing) -> SavedStanding {
+        SavedStanding {
+            armed: standing.arm.armed as u8,
+            ticks: standing.arm.ticks,
+            counts: standing.counts,
+        }
     }
 }
 
 // A run to be saved.
-pub fn run_out(run: Run) -> Saved
-    ensures { result ≡ outward run }
-{
-    let states = run.states;
-    Saved {
-        standing: standing_out(run.standing),
-        states,
+impl From<Run> for Saved {
+    ghost from_gives = { λ run saved. saved ≡ outward run };
+
+    fn from(run: Run) -> Saved {
+        let states = run.states;
+        Saved {
+            standing: run.standing.into(),
+            states,
+        }
     }
 }
 
-fn handed_of(standing: SavedStanding, answer: Answer) -> Handed
-    ensures { result ≡ handed_from standing answer }
-{
-    Handed { standing, answer }
-}
-
 // What a step left, to be handed out.
-pub fn step_out(l: Left) -> Handed
-    ensures { result ≡ left_outward l }
-{
-    handed_of(standing_out(l.standing), l.answer)
+impl From<Left> for Handed {
+    ghost from_gives = { λ left handed. handed ≡ left_outward left };
+
+    fn from(left: Left) -> Handed {
+        Handed {
+            standing: left.standing.into(),
+            answer: left.answer,
+        }
+    }
 }
 
 // An armed number that is neither 0 nor 1: 20, and all as it came.
 pub fn step_refused(standing: SavedStanding) -> Handed
     ensures { result ≡ refused_left standing }
 {
-    handed_of(standing, step_rules::types::bare(20))
-}
-
-fn portion_of(standing: SavedStanding, stop: u8, read: usize, count: usize, wrote: usize) -> Portion
-    ensures { result ≡ portion_from standing stop read count wrote }
-{
-    Portion {
+    Handed {
         standing,
-        stop,
-        read,
-        count,
-        wrote,
+        answer: step_rules::types::bare(20),
     }
 }
 
 // What a piece of a recording came to, to be handed out.
-pub fn piece_out(r: Reached) -> Portion
-    ensures { result ≡ reached_outward r }
-{
-    portion_of(standing_out(r.standing), r.stop, r.read, r.count, r.wrote)
+impl From<Reached> for Portion {
+    ghost from_gives = { λ reached portion. portion ≡ reached_outward reached };
+
+    fn from(reached: Reached) -> Portion {
+        Portion {
+            standing: reached.standing.into(),
+            stop: reached.stop,
+            read: reached.read,
+            count: reached.count,
+            wrote: reached.wrote,
+        }
+    }
 }
 
 // An armed number that is neither 0 nor 1: 20, nothing read, and all as it came.
 pub fn piece_refused(standing: SavedStanding) -> Portion
     ensures { result ≡ refused_reached standing }
 {
-    portion_of(standing, 20, 0, 0, 0)
+    Portion {
+        standing,
+        stop: 20,
+        read: 0,
+        count: 0,
+        wrote: 0,
+    }
 }

@@ -1,188 +1,161 @@
 // Loads configuration C of document 01, images that differ from it in one place, and images one row past each limit, and
-// prints of each its name and the load's answer and offset.
+// prints of each its name and the load's answer and offset. What can't be written is lost.
 #![tactic(auto)]
 
-// Configuration C: basics, two routes, a protected id, a fault row; its records begin at 0, 10, 17, 24 and 30.
-const C: [u8; 42] = [
-    0x06, 0x00, 0x01, 0x00, 0x01, 0x00, 0x02, 0x00, 0x64, 0x00, 0x03, 0x00, 0x02, 0x00, 0x0A, 0x00,
-    0x01, 0x03, 0x00, 0x02, 0x00, 0x14, 0x00, 0x02, 0x02, 0x00, 0x03, 0x00, 0x14, 0x00, 0x08, 0x00,
-    0x04, 0x00, 0x07, 0x00, 0x0A, 0x00, 0x01, 0x01, 0x01, 0xAA,
+use image_load::types::Loaded;
+use std::fmt;
+use std::fmt::Write;
+use text::Page;
+use worked::C;
+
+// C with some bytes changed: the place and the new byte of each.
+type Changed = (&'static str, &'static [(usize, u8)]);
+
+const GOOD: [Changed; 3] = [
+    ("C", &[]),
+    ("C, row starts disabled", &[(38, 0)]),
+    ("C, own base 65,528", &[(8, 0xF8), (9, 0xFF)]),
 ];
 
-fn main() {
-    let mut out = io::buffer();
-    let n = good(&mut out, 0);
-    let n = cut(&mut out, n);
-    let n = kinds(&mut out, n);
-    let n = sizes(&mut out, n);
-    let n = orders(&mut out, n);
-    let n = longer(&mut out, n);
-    let n = most_routes(&mut out, n);
-    let n = limits(&mut out, n);
-    let n = rules(&mut out, n);
-    let n = more_rules(&mut out, n);
-    let n = row_rules(&mut out, n);
-    io::write_all(1, text::first(&out, n));
-}
+// The first bytes of C.
+const CUT: [(&str, usize); 4] = [
+    ("no bytes", 0),
+    ("C, none of its bytes", 0),
+    ("C, header cut", 12),
+    ("C, body cut", 41),
+];
 
-// One line: the name, the answer, the offset.
-fn show(out: &mut [u8], at: usize, name: &[u8], bytes: &[u8]) -> usize {
-    let l = image_load::load::load(bytes);
-    let n = text::put(out, at, name);
-    let n = text::put(out, n, b": ");
-    let n = text::put_number(out, n, l.answer as u64, b' ');
-    text::put_number(out, n, l.offset as u64, b'\n')
-}
+const RECORDS: [Changed; 8] = [
+    ("C, body length 65,282", &[(11, 0xFF)]),
+    ("C, kind 0", &[(2, 0)]),
+    ("C, kind 5", &[(12, 5)]),
+    ("C, kind 65,535", &[(32, 0xFF), (33, 0xFF)]),
+    ("C, basics of 5 bytes", &[(0, 5)]),
+    ("C, route of 4 bytes", &[(10, 4)]),
+    ("C, 17 arguments", &[(40, 17)]),
+    ("C, no arguments but a byte", &[(40, 0)]),
+];
 
-// C with one byte changed.
-fn changed(out: &mut [u8], at: usize, name: &[u8], place: usize, value: u8) -> usize {
-    let mut c = C;
-    if place >= 42 {
-        return at;
-    }
-    c[place] = value;
-    show(out, at, name, &c)
-}
+// A route and no basics.
+const NO_BASICS: [u8; 7] = [0x03, 0x00, 0x02, 0x00, 0x0A, 0x00, 0x01];
 
-fn good(out: &mut [u8], at: usize) -> usize {
-    let n = show(out, at, b"C", &C);
-    let n = changed(out, n, b"C, row starts disabled", 38, 0);
-    let mut c = C;
-    c[8] = 0xF8;
-    c[9] = 0xFF;
-    show(out, n, b"C, own base 65,528", &c)
-}
-
-fn cut(out: &mut [u8], at: usize) -> usize {
-    let n = show(out, at, b"no bytes", &[]);
-    let n = show(out, n, b"C, none of its bytes", &C[..0]);
-    let n = show(out, n, b"C, header cut", &C[..12]);
-    let n = show(out, n, b"C, body cut", &C[..41]);
-    changed(out, n, b"C, body length 65,282", 11, 0xFF)
-}
-
-fn kinds(out: &mut [u8], at: usize) -> usize {
-    let n = changed(out, at, b"C, kind 0", 2, 0);
-    let n = changed(out, n, b"C, kind 5", 12, 5);
-    let mut c = C;
-    c[32] = 0xFF;
-    c[33] = 0xFF;
-    show(out, n, b"C, kind 65,535", &c)
-}
-
-fn sizes(out: &mut [u8], at: usize) -> usize {
-    let n = changed(out, at, b"C, basics of 5 bytes", 0, 5);
-    let n = changed(out, n, b"C, route of 4 bytes", 10, 4);
-    let n = changed(out, n, b"C, 17 arguments", 40, 17);
-    changed(out, n, b"C, no arguments but a byte", 40, 0)
-}
-
-fn orders(out: &mut [u8], at: usize) -> usize {
-    let n = show(
-        out,
-        at,
-        b"no basics",
-        &[0x03, 0x00, 0x02, 0x00, 0x0A, 0x00, 0x01],
-    );
-    let n = changed(out, n, b"C, route id twice", 21, 0x0A);
-    changed(out, n, b"C, route id falls", 21, 0x09)
-}
+const ORDERS: [Changed; 2] = [
+    ("C, route id twice", &[(21, 0x0A)]),
+    ("C, route id falls", &[(21, 0x09)]),
+];
 
 // C with a record behind it.
-fn longer(out: &mut [u8], at: usize) -> usize {
-    let mut b = [0u8; 64];
-    let k = text::put(&mut b, 0, &C);
-    let e = text::put(
-        &mut b,
-        k,
+const LONGER: [(&str, &[u8]); 3] = [
+    (
+        "C, basics again",
         &[0x06, 0x00, 0x01, 0x00, 0x01, 0x00, 0x02, 0x00, 0x64, 0x00],
-    );
-    let n = show(out, at, b"C, basics again", text::first(&b, e));
-    let e = text::put(&mut b, k, &[0x03, 0x00, 0x02, 0x00, 0x1E, 0x00, 0x01]);
-    let n = show(out, n, b"C, kind falls", text::first(&b, e));
-    let e = text::put(
-        &mut b,
-        k,
+    ),
+    ("C, kind falls", &[0x03, 0x00, 0x02, 0x00, 0x1E, 0x00, 0x01]),
+    (
+        "C, fault id twice",
         &[
             0x07, 0x00, 0x04, 0x00, 0x07, 0x00, 0x0A, 0x00, 0x01, 0x01, 0x00,
         ],
-    );
-    show(out, n, b"C, fault id twice", text::first(&b, e))
-}
+    ),
+];
 
-// Appends records with the ids 1 to n, which differ in the bytes around the id.
-fn append(b: &mut [u8], at: usize, n: u16, before: &[u8], after: &[u8]) -> usize {
-    let mut place = at;
-    let mut id: u16 = 0;
-    while id < n {
-        id += 1;
-        place = put_three(b, place, before, id, after);
-    }
-    place
-}
+// So many routes.
+const ROUTES: [(&str, u16); 2] = [("128 routes", 128), ("129 routes", 129)];
 
-fn put_three(b: &mut [u8], at: usize, before: &[u8], id: u16, after: &[u8]) -> usize {
-    let k = text::put(b, at, before);
-    let k = text::put(b, k, &[(id % 256) as u8, (id / 256) as u8]);
-    text::put(b, k, after)
-}
-
-// Basics with own base 1,000, and n routes.
-fn routed(b: &mut [u8], n: u16) -> usize {
-    let k = text::put(
-        b,
-        0,
-        &[0x06, 0x00, 0x01, 0x00, 0x01, 0x00, 0x02, 0x00, 0xE8, 0x03],
-    );
-    append(b, k, n, &[0x03, 0x00, 0x02, 0x00], &[0x1F])
-}
-
-fn most_routes(out: &mut [u8], at: usize) -> usize {
-    let mut b = [0u8; 2048];
-    let k = routed(&mut b, 128);
-    let n = show(out, at, b"128 routes", text::first(&b, k));
-    let k = routed(&mut b, 129);
-    show(out, n, b"129 routes", text::first(&b, k))
-}
-
-fn limits(out: &mut [u8], at: usize) -> usize {
-    let mut b = [0u8; 2048];
-    let k = routed(&mut b, 63);
-    let p = append(&mut b, k, 32, &[0x02, 0x00, 0x03, 0x00], &[]);
-    let n = show(out, at, b"32 protected ids", text::first(&b, p));
-    let p = append(&mut b, k, 33, &[0x02, 0x00, 0x03, 0x00], &[]);
-    let n = show(out, n, b"33 protected ids", text::first(&b, p));
-    let p = append(
-        &mut b,
-        k,
+// Behind 63 routes so many more records: their number, and the bytes around the id.
+const ROWS: [(&str, u16, &[u8], &[u8]); 3] = [
+    ("32 protected ids", 32, &PROTECTED, &[]),
+    ("33 protected ids", 33, &PROTECTED, &[]),
+    (
+        "33 fault rows",
         33,
         &[0x07, 0x00, 0x04, 0x00],
         &[0x01, 0x00, 0x00, 0x00, 0x00],
-    );
-    show(out, n, b"33 fault rows", text::first(&b, p))
+    ),
+];
+
+const PROTECTED: [u8; 4] = [0x02, 0x00, 0x03, 0x00];
+
+const RULES: [Changed; 11] = [
+    ("C, sources equal", &[(4, 2)]),
+    ("C, own base 65,529", &[(8, 0xF9), (9, 0xFF)]),
+    ("C, destination 0", &[(16, 0)]),
+    ("C, destination 32", &[(16, 32)]),
+    ("C, own id routed", &[(21, 0x65)]),
+    ("C, protected id neither routed nor own", &[(28, 0x15)]),
+    ("C, arm id protected", &[(28, 0x64)]),
+    ("C, response not routed", &[(36, 0x0B)]),
+    ("C, response an own id", &[(36, 0x66)]),
+    ("C, start state 2", &[(38, 2)]),
+    ("C, latching 2", &[(39, 2)]),
+];
+
+fn main() {
+    let mut page = Page::<4096>::new();
+    let _ = all(&mut page);
+    io::write_all(1, page.bytes());
 }
 
-fn rules(out: &mut [u8], at: usize) -> usize {
-    let mut c = C;
-    c[4] = 2;
-    let n = show(out, at, b"C, sources equal", &c);
-    c = C;
-    c[8] = 0xF9;
-    c[9] = 0xFF;
-    let n = show(out, n, b"C, own base 65,529", &c);
-    let n = changed(out, n, b"C, destination 0", 16, 0);
-    changed(out, n, b"C, destination 32", 16, 32)
+fn all(page: &mut impl Write) -> fmt::Result {
+    all_changed(page, &GOOD)?;
+    for (name, size) in CUT {
+        show(page, name, text::first(&C, size))?;
+    }
+    all_changed(page, &RECORDS)?;
+    show(page, "no basics", &NO_BASICS)?;
+    all_changed(page, &ORDERS)?;
+    for (name, record) in LONGER {
+        let mut image = Image::new();
+        image.put(&C);
+        image.put(record);
+        show(page, name, image.bytes())?;
+    }
+    for (name, n) in ROUTES {
+        show(page, name, routed(n).bytes())?;
+    }
+    for (name, n, before, after) in ROWS {
+        let mut image = routed(63);
+        append(&mut image, n, before, after);
+        show(page, name, image.bytes())?;
+    }
+    all_changed(page, &RULES)
 }
 
-fn more_rules(out: &mut [u8], at: usize) -> usize {
-    let n = changed(out, at, b"C, own id routed", 21, 0x65);
-    let n = changed(out, n, b"C, protected id neither routed nor own", 28, 0x15);
-    changed(out, n, b"C, arm id protected", 28, 0x64)
+// One line: the name, the answer, the offset.
+fn show(page: &mut impl Write, name: &str, image: &[u8]) -> fmt::Result {
+    let Loaded { answer, offset, .. } = image_load::load::load(image);
+    writeln!(page, "{name}: {answer} {offset}")
 }
 
-fn row_rules(out: &mut [u8], at: usize) -> usize {
-    let n = changed(out, at, b"C, response not routed", 36, 0x0B);
-    let n = changed(out, n, b"C, response an own id", 36, 0x66);
-    let n = changed(out, n, b"C, start state 2", 38, 2);
-    changed(out, n, b"C, latching 2", 39, 2)
+fn all_changed(page: &mut impl Write, cases: &[Changed]) -> fmt::Result {
+    for &(name, changes) in cases {
+        let mut image = C;
+        for &(place, byte) in changes {
+            if let Some(b) = image.get_mut(place) {
+                *b = byte;
+            }
+        }
+        show(page, name, &image)?;
+    }
+    Ok(())
+}
+
+// An image that is put together record by record.
+type Image = Page<2048>;
+
+// Basics with own base 1,000, and n routes.
+fn routed(n: u16) -> Image {
+    let mut image = Image::new();
+    image.put(&[0x06, 0x00, 0x01, 0x00, 0x01, 0x00, 0x02, 0x00, 0xE8, 0x03]);
+    append(&mut image, n, &[0x03, 0x00, 0x02, 0x00], &[0x1F]);
+    image
+}
+
+// Appends records with the ids 1 to n, which differ in the bytes around the id.
+fn append(image: &mut Image, n: u16, before: &[u8], after: &[u8]) {
+    for id in 1..=n {
+        image.put(before);
+        image.put(&id.to_le_bytes());
+        image.put(after);
+    }
 }

@@ -1,8 +1,6 @@
 -- What the loop of `load` keeps true, and its laws: it holds at the start, a good record keeps it, and each way out is the
 -- load's answer.
 use Rattle.std.specs.Prelude.{◌≡◌, List, [], ℕ, ◌+◌, ◌≤◌, length, replicate}
-use Rattle.state.specs.declared.types.Settings.{Settings}
-use Rattle.state.specs.declared.types.Numbers.{Numbers}
 use Rattle.state.specs.declared.types.Config.{Config}
 use Rattle.state.specs.Tables.{config_of, first_run}
 use Rattle.image_rules.specs.Records.{Record, records_from}
@@ -18,10 +16,6 @@ pub record Walked (bs : List ℕ) (c : Config) (states : List ℕ) (last place :
   pub held : Held before c states
   pub last_is : last ≡ last_kind before
   pub rest : load_of bs ≡ load_after before (records_from fuel bs place)
-
--- no rows
-abbrev pub no_rows : Settings → Numbers
-no_rows settings = record { settings = settings; nroutes = 0; nprotected = 0; nrows = 0 }
 
 -- columns that hold nothing
 pub record Blank (c : Config) (states : List ℕ) : Type 0 where

@@ -5,4 +5,5 @@ pub mod KindRules
 pub mod RecordLaws
 pub mod RecordOutcomeLaws
 pub mod RecordPartLaws
+pub mod RefusalLaws
 pub mod Zero

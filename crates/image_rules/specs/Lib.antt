@@ -1,4 +1,5 @@
 pub mod Records
+pub mod Refusals
 pub mod Written
 pub mod Kinds
 pub mod Checks

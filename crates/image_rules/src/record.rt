@@ -1,7 +1,7 @@
 // The frame of a record: its header and its end.
 ghost use Rattle.std.specs.Prelude.{◌≡◌, ◌+◌, ◌≤◌, length};
 ghost use Rattle.image_rules.specs.Records.{le16};
-ghost use Rattle.image_rules.specs.RecordParts.{FoundAt};
+ghost use Rattle.image_rules.specs.RecordParts.{FoundIn};
 
 use wire::word;
 
@@ -21,29 +21,25 @@ pub struct Found {
     pub kind: u16,
 }
 
-// No record: it passes the end of the bytes.
-fn cut() -> Found
-    ensures { result.end ≡ 0 }
-{
-    Found { end: 0, kind: 0 }
-}
-
-// The record at a place; its end is 0 where its header or body passes the end of the bytes. The one walk over records, of an image
-// and of a recording.
+// The record at a place; none where its header or body passes the end of the bytes. The one walk over records, of an image and of
+// a recording.
 // internal: for those who walk over records, whose place is within the bytes.
-pub fn found_at(bytes: &[u8], at: usize) -> Found
+#[tactic(auto, using(crate::proofs::RecordLaws::cut_head, crate::proofs::RecordLaws::cut_body))]
+pub fn found_at(bytes: &[u8], at: usize) -> Option<Found>
     requires { at ≤ length bytes.now }
-    ensures { FoundAt bytes.now at result.kind result.end }
+    ensures { FoundIn bytes.now at result }
 {
-    if bytes.len() - at < 4 {
-        return cut();
+    let room = bytes.len() - at;
+    if room < 4 {
+        return None;
     }
     let size = word_at(bytes, at) as usize;
-    if bytes.len() - at - 4 < size {
-        return cut();
-    }
-    Found {
-        end: at + 4 + size,
-        kind: word_at(bytes, at + 2),
+    if room - 4 < size {
+        None
+    } else {
+        Some(Found {
+            end: at + 4 + size,
+            kind: word_at(bytes, at + 2),
+        })
     }
 }

@@ -11,8 +11,8 @@ pub fn arguments(packet: &[u8]) -> &[u8]
     ensures content { result.now ≡ arguments_of packet.now }
     ensures place { (result.ref_ptr.0 ≡ packet.entry.ref_ptr.0) × (result.ref_ptr.1 ≡ arguments_at packet.now + packet.entry.ref_ptr.1) }
 {
-    if judge::refusal(packet) != 0 {
-        return &packet[..0];
+    match judge::refusal(packet) {
+        Err(_) => &packet[..0],
+        Ok(()) => accepted_part(packet),
     }
-    accepted_part(packet)
 }

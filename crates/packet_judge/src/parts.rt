@@ -1,4 +1,6 @@
-// The parts of a packet that the judge has accepted: its command id, its argument count and its argument part.
+// The parts of a packet that the judge has accepted: its command id, its argument count and its argument part. There is no type of
+// accepted packets: each reader is one line, asked right behind the judge, and a wrapper would be taken off again for the bytes
+// that go on.
 ghost use Rattle.std.specs.Prelude.{◌≡◌, ◌+◌};
 ghost use Rattle.packet_rules.specs.Layout.{command_id, arg_count};
 ghost use Rattle.packet_rules.specs.Judge.{arguments_of};

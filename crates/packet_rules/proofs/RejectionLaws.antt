@@ -1,11 +1,31 @@
 -- Which answers reject a packet: the judge's refusals. The counters and the theorems ask it here.
 use Rattle.std.specs.Prelude.{◌≡◌, refl, List, true, false, ℕ, ◌<◌, ◌≤◌, eqb}
-use Rattle.std.proofs.Common.{sym, ap, ◌∙◌, ne_eqb, le-leb, leb-false}
+use Rattle.std.proofs.Common.{sym, ap, ◌∙◌, arith, ne_eqb, le-leb, leb-false}
 use Rattle.std.proofs.lemmas.Bool.{false≢true, lt-leb}
 use Rattle.packet_rules.specs.Judge.{refusal_of}
 use Rattle.packet_rules.specs.JudgeOutcome.{BadForm, not_version_0, not_telecommand, not_secondary, not_xor_0, Outcome, below_6, not_whole, bad_form, no_room, too_many, taken}
 use Rattle.packet_rules.proofs.JudgeLaws.{outcome}
-use Rattle.packet_rules.specs.Rejection.{is_rejection}
+use Rattle.packet_rules.specs.declared.rejection.Rejection.{Rejection}
+use Rattle.packet_rules.specs.declared.rejection.Rejection.TheVariants.{TooShort, WrongSize, WrongVersion, NotTelecommand, NoSecondaryHeader, XorNotZero, DataTooShort, TooManyArguments}
+use Rattle.packet_rules.specs.Rejection.{number_of, is_rejection}
+
+-- ---- the refusals: none has the number 0, which tells that nothing is refused
+
+pub number_not_0 : (r : Rejection) → number_of r ≡ 0 → ⊥
+number_not_0 TooShort e = absurd (omega arith)
+number_not_0 WrongSize e = absurd (omega arith)
+number_not_0 WrongVersion e = absurd (omega arith)
+number_not_0 NotTelecommand e = absurd (omega arith)
+number_not_0 NoSecondaryHeader e = absurd (omega arith)
+number_not_0 XorNotZero e = absurd (omega arith)
+number_not_0 DataTooShort e = absurd (omega arith)
+number_not_0 TooManyArguments e = absurd (omega arith)
+
+-- so what a refused packet is told is not 0
+pub refused : (r : Rejection) {n : ℕ} → number_of r ≡ n → n ≡ 0 → ⊥
+refused r e z = number_not_0 r (e ∙ z)
+
+-- ---- the numbers that are answered
 
 bad_rejects : {s : List ℕ} {n : ℕ} → BadForm s n → is_rejection n ≡ true
 bad_rejects (not_version_0 h) = refl

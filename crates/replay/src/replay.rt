@@ -1,47 +1,30 @@
 // Replay of a recording: the state is judged once, and the walk over the events does not judge it again.
 ghost use Rattle.std.specs.Prelude.{◌≡◌, length};
-ghost use Rattle.state.specs.Tables.{config_from, run_from};
+ghost use Rattle.state.specs.Tables.{config_of_lent, run_from};
 ghost use Rattle.step_effects.specs.Dispatch.{over};
 ghost use Rattle.replay_rules.specs.Replay.{Resumes, piece_of, piece_bytes, replay_of, replay_bytes};
 
 use replay_rules::types;
 use replay_rules::types::{Piece, Reached, Replayed, reached_at};
 use replay_walk::inner_replay;
-use state::types::{Config, Numbers, Run, Standing, no_counts};
+use state::types::{Config, LentConfig, Run, Standing, no_counts};
 
 // A piece of a recording behind any state: 20 where the state breaks its rules, which is judged once. A recording may come in
 // pieces: what was not read of one stands before the next, and what one leaves goes into the next. Columns and fault states are
 // lent.
-pub fn lent_resume<'a>(
-    numbers: Numbers,
-    routeids: &'a [u16; 128],
-    dests: &'a [u8; 128],
-    protected: &'a [u16; 32],
-    faultids: &'a [u16; 32],
-    responses: &'a [u16; 32],
-    latching: &'a [u8; 32],
-    argcounts: &'a [u8; 32],
-    args: &'a [u8; 512],
+pub fn lent_resume(
+    config: &LentConfig<'_>,
     standing: Standing,
     states: &mut [u8; 32],
     recording: &[u8],
     out: &mut [u8],
 ) -> Reached
-    ensures { Resumes
-        (config_from numbers routeids.now dests.now protected.now faultids.now
-        responses.now latching.now argcounts.now args.now)
-        (run_from standing states.old) recording.now out.old result states.new out.new }
+    ensures { Resumes (config_of_lent config.now) (run_from standing states.old) recording.now out.old result states.new out.new }
 {
-    if !state_check::lent_keeps(
-        numbers, routeids, dests, protected, faultids, responses, latching, argcounts, args,
-        standing, states,
-    ) {
+    if !state_check::lent_keeps(config, standing, states) {
         return reached_at(standing, 20, 0, 0, 0);
     }
-    inner_replay(
-        numbers, routeids, dests, protected, faultids, responses, latching, argcounts, args,
-        standing, states, recording, out,
-    )
+    inner_replay(config, standing, states, recording, out)
 }
 
 // The same of a configuration and a run by value.
@@ -50,21 +33,7 @@ pub fn resume(config: Config, run: Run, recording: &[u8], out: &mut [u8]) -> Pie
     ensures output { out.new ≡ over (piece_bytes config run recording.now (length out.old)) out.old }
 {
     let mut states = run.states;
-    let r = lent_resume(
-        config.numbers,
-        &config.routeids,
-        &config.dests,
-        &config.protected,
-        &config.faultids,
-        &config.responses,
-        &config.latching,
-        &config.argcounts,
-        &config.args,
-        run.standing,
-        &mut states,
-        recording,
-        out,
-    );
+    let r = lent_resume(&config.lent(), run.standing, &mut states, recording, out);
     types::piece_of(r, states)
 }
 
@@ -89,21 +58,7 @@ pub fn replay(image: &[u8], recording: &[u8], out: &mut [u8]) -> Replayed
     let config = loaded.config;
     let run = loaded.run;
     let mut states = run.states;
-    let reached = inner_replay(
-        config.numbers,
-        &config.routeids,
-        &config.dests,
-        &config.protected,
-        &config.faultids,
-        &config.responses,
-        &config.latching,
-        &config.argcounts,
-        &config.args,
-        run.standing,
-        &mut states,
-        recording,
-        out,
-    );
+    let reached = inner_replay(&config.lent(), run.standing, &mut states, recording, out);
     let last = reached.standing.counts;
     Replayed {
         load: 0,

@@ -263,7 +263,7 @@ bad_stays a b = bad_from (length (a ++ b)) b (reads (length a) a 0 (omega arith)
 
 -- ---- rules
 
-event_bytes : (r : Record) → Bytes r.body → EventBytes (event_in r)
+pub event_bytes : (r : Record) → Bytes r.body → EventBytes (event_in r)
 event_bytes r h = go (eqb r.kind 16) (eqb r.kind 17)
   where
     go : (p t : Bool) → EventBytes (cond p (packet r.body) (cond t tick (fault (le16 r.body 0))))

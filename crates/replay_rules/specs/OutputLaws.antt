@@ -1,5 +1,5 @@
 -- Laws of the output: a command written behind the place of its numbers, then the numbers, then the next reply behind both.
-use Rattle.std.specs.Prelude.{List, ◌++◌, ℕ, ◌+◌, ◌-◌, length, take, drop}
+use Rattle.std.specs.Prelude.{List, ◌++◌, ℕ, ◌-◌, length, take, drop}
 
 -- a buffer whose part from place n on was lent and came back as `part`
 abbrev pub back_as : List ℕ → ℕ → List ℕ → List ℕ

@@ -1,10 +1,14 @@
 -- A recording of events in bytes, and the replies to it in bytes: which event a record is, what stops the reading, and how the
 -- replies stand in the output.
-use Rattle.std.specs.Prelude.{Bool, true, cond, ◌&&◌, List, [], ◌∷◌, ◌++◌, ℕ, ◌+◌, ◌-◌, ◌/◌, ◌%◌, eqb, leb, length}
+use Rattle.std.specs.Prelude.{◌≡◌, Bool, true, cond, ◌&&◌, List, [], ◌∷◌, ◌++◌, ℕ, ◌+◌, ◌-◌, ◌/◌, ◌%◌, eqb, leb, length, Result, Ok, Err, ⊤}
 use Rattle.image_rules.specs.Records.{le16, Record}
 use Rattle.wire.specs.Check.{check}
 use Rattle.history.specs.Plain.{Event, packet, tick, fault, Reply}
 use Rattle.step_effects.specs.Dispatch.{step_room}
+use Rattle.replay_rules.specs.declared.recording.LentEvent.{LentEvent}
+use Rattle.replay_rules.specs.declared.recording.LentEvent.TheVariants.{Packet, Tick, Fault}
+use Rattle.replay_rules.specs.declared.recording.Stop.{Stop}
+use Rattle.replay_rules.specs.declared.recording.Stop.TheVariants.{CutShort, OtherKind, WrongLength, OutputFull}
 
 -- ---- events: records in the same length and kind form as the image
 
@@ -29,12 +33,34 @@ wrong_length = 62
 abbrev pub output_full : ℕ
 output_full = 63
 
+abbrev pub number_of : Stop → ℕ
+number_of CutShort = cut_short
+number_of OtherKind = other_kind
+number_of WrongLength = wrong_length
+number_of OutputFull = output_full
+
+-- the number that tells a result: 0 where the reading goes on
+abbrev pub told : Result ⊤ Stop → ℕ
+told (Ok nothing) = 0
+told (Err stop) = number_of stop
+
 -- what is wrong with a whole record; 0 where nothing is
 unfoldable pub kind_refusal : ℕ → ℕ → ℕ
 kind_refusal kind size = check (leb 16 kind && leb kind 18) other_kind (check (event_sized kind size) wrong_length 0)
 
 abbrev pub event_refusal : Record → ℕ
 event_refusal r = check r.whole cut_short (kind_refusal r.kind (length r.body))
+
+-- the event that the code hands on, its packet lent
+abbrev pub event_lent : LentEvent → Event
+event_lent (Packet bytes) = packet bytes.now
+event_lent Tick = tick
+event_lent (Fault id) = fault id
+
+-- what the code finds in a whole record: nothing is wrong, and this is its event; or what is wrong
+abbrev pub EventOf : ℕ → List ℕ → Result LentEvent Stop → Type 0
+EventOf kind body (Ok e) = (0 ≡ kind_refusal kind (length body)) × (event_in (record { place = 0; whole = true; kind = kind; body = body }) ≡ event_lent e)
+EventOf kind body (Err stop) = number_of stop ≡ kind_refusal kind (length body)
 
 -- the events before the first bad record
 abbrev pub events_of : List Record → List Event

@@ -4,12 +4,13 @@ ghost use Rattle.replay_rules.specs.Replay.{reached_at, piece_left};
 
 use state::types::{Counts, Run, Standing, run_of};
 
-// What a piece of a recording came to, and the run that it left.
+// What a piece of a recording came to, and the run that it left. `Reached` and `Portion` of export_rules differ from it in the first
+// field alone, and stay structs of their own: C takes no struct with a type parameter, and knows that field of `Portion` by its name.
 #[repr(C)]
 #[derive(Clone, Copy)]
 pub struct Piece {
     pub run: Run,
-    // 0 all of it was read; 60, 61 or 62 the first bad record; 63 the output is full; 20 the state breaks its rules
+    // 0 all of it was read; the number of a `Stop`; 20 the state breaks its rules. A number, since C takes it so
     pub stop: u8,
     // bytes of the recording that were read, events that were answered, bytes of the output that were written
     pub read: usize,

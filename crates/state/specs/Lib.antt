@@ -1,3 +1,4 @@
+pub mod Lengths
 pub mod Settings
 pub mod Tables
 pub mod Sized

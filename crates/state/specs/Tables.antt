@@ -3,6 +3,7 @@ use Rattle.std.specs.Prelude.{false, List, [], ◌∷◌, ◌++◌, map, ℕ, ze
 use Rattle.state.specs.declared.types.Settings.{Settings}
 use Rattle.state.specs.declared.types.Numbers.{Numbers}
 use Rattle.state.specs.declared.types.Config.{Config}
+use Rattle.state.specs.declared.lent.LentConfig.{LentConfig}
 use Rattle.state.specs.declared.types.Arm.{Arm}
 use Rattle.state.specs.declared.types.Counts.{Counts}
 use Rattle.state.specs.declared.types.Standing.{Standing}
@@ -85,6 +86,12 @@ config_from numbers routeids dests protected faultids responses latching argcoun
       argcounts = argcounts;
       args = args;
     }
+
+-- the configuration that is lent
+abbrev pub config_of_lent : LentConfig → Config
+config_of_lent l =
+    config_from l.numbers l.routeids.now l.dests.now l.protected.now l.faultids.now l.responses.now l.latching.now
+    l.argcounts.now l.args.now
 
 -- ---- the run: made here and nowhere else
 

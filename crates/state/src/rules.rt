@@ -10,13 +10,7 @@ use crate::types::Settings;
 pub fn is_own(base: u16, id: u16) -> bool
     ensures { result ≡ own base id }
 {
-    if id < base {
-        return false;
-    }
-    if id - base > 7 {
-        return false;
-    }
-    true
+    base <= id && id - base <= 7
 }
 
 // The sources differ, and the own ids end within 65,535.
@@ -24,10 +18,7 @@ pub fn is_own(base: u16, id: u16) -> bool
 pub fn settings_ok(settings: Settings) -> bool
     ensures { result ≡ settings_ok settings }
 {
-    if settings.ground_source == settings.fault {
-        return false;
-    }
-    settings.base <= 65528
+    settings.ground_source != settings.fault && settings.base <= 65528
 }
 
 // The destination is 1 to 31, and the id is no own id.
@@ -35,13 +26,7 @@ pub fn settings_ok(settings: Settings) -> bool
 pub fn route_ok(base: u16, id: u16, dest: u8) -> bool
     ensures { result ≡ route_ok base id dest }
 {
-    if dest < 1 {
-        return false;
-    }
-    if dest > 31 {
-        return false;
-    }
-    !is_own(base, id)
+    1 <= dest && dest <= 31 && !is_own(base, id)
 }
 
 // The id, of which it is known whether it is routed, is routed or own, and is not the arm id.
@@ -49,13 +34,7 @@ pub fn route_ok(base: u16, id: u16, dest: u8) -> bool
 pub fn protected_ok(base: u16, routed: bool, id: u16) -> bool
     ensures { result ≡ protected_ok base routed id }
 {
-    if id == base {
-        return false;
-    }
-    if routed {
-        return true;
-    }
-    is_own(base, id)
+    id != base && (routed || is_own(base, id))
 }
 
 // The response id is routed, and latching is 0 or 1.
@@ -63,10 +42,7 @@ pub fn protected_ok(base: u16, routed: bool, id: u16) -> bool
 pub fn row_ok(routed: bool, latching: u8) -> bool
     ensures { result ≡ row_ok routed latching }
 {
-    if !routed {
-        return false;
-    }
-    latching <= 1
+    routed && latching <= 1
 }
 
 // The start state is 0 or 1.

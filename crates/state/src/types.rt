@@ -3,7 +3,9 @@
 // one that is taken in across the C boundary.
 ghost use Rattle.std.specs.Prelude.{◌≡◌};
 ghost use Rattle.state.specs.Settings.{no_settings};
-ghost use Rattle.state.specs.Tables.{no_counts, with_arm, with_counts, run_from, first_run};
+ghost use Rattle.state.specs.Tables.{no_counts, with_arm, with_counts, run_from, first_run, config_of_lent};
+
+pub use crate::lent::LentConfig;
 
 // What the single records of an image set: the sources and own base.
 #[repr(C)]
@@ -41,7 +43,27 @@ pub struct Config {
     pub args: [u8; 512],
 }
 
-// The small arm record.
+impl Config {
+    // All of it, lent.
+    pub fn lent(&self) -> LentConfig<'_>
+        ensures { config_of_lent result ≡ self.now }
+    {
+        LentConfig {
+            numbers: self.numbers,
+            routeids: &self.routeids,
+            dests: &self.dests,
+            protected: &self.protected,
+            faultids: &self.faultids,
+            responses: &self.responses,
+            latching: &self.latching,
+            argcounts: &self.argcounts,
+            args: &self.args,
+        }
+    }
+}
+
+// The small arm record: armed or not, and the ticks that remain. No Option of the ticks, since document 01 names these two fields
+// and C keeps them.
 #[repr(C)]
 #[derive(Clone, Copy)]
 pub struct Arm {
@@ -108,18 +130,14 @@ pub fn no_counts() -> Counts
 pub fn with_arm(standing: Standing, arm: Arm) -> Standing
     ensures { result ≡ with_arm arm standing }
 {
-    let mut next = standing;
-    next.arm = arm;
-    next
+    Standing { arm, ..standing }
 }
 
 // A standing with other counters.
 pub fn with_counts(standing: Standing, counts: Counts) -> Standing
     ensures { result ≡ with_counts counts standing }
 {
-    let mut next = standing;
-    next.counts = counts;
-    next
+    Standing { counts, ..standing }
 }
 
 // The run of its parts.

@@ -71,6 +71,17 @@ module _ (xs : List ℕ) (k : ℕ) where
   pub zero_past : length xs ≤ k → all_zero (drop k xs) ≡ true
   zero_past l = rw (drop_of_length-le xs {i = k} l)
 
+module _ (p : ℕ → Bool) (xs : List ℕ) (k : ℕ) (l : k < length xs) where
+  pub each_here : Gathered (each p (drop k xs)) (each p (drop (k + 1) xs)) (p (get_or xs k 0))
+  each_here = record { rest = rw (item_at xs k l) }
+
+  module _ {w : Bool} (h : Gathered w (each p (drop k xs)) true) where
+    pub here_refuses : p (get_or xs k 0) ≡ false → false ≡ w
+    here_refuses e = refuses (passes h refl each_here) e
+
+    pub here_passes : p (get_or xs k 0) ≡ true → Gathered w (each p (drop (k + 1) xs)) true
+    here_passes e = passes (passes h refl each_here) e unwalked
+
 module _ (p : ℕ → Bool) (xs : List ℕ) (n k : ℕ) where
   pub each_at : (k < n) × (n ≤ length xs) → Gathered (each p (drop k (take n xs))) (each p (drop (k + 1) (take n xs))) (p (get_or xs k 0))
   each_at l = record { rest = rw (id_at xs n k l) }

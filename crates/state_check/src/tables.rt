@@ -1,15 +1,25 @@
 // The tables of a state: rows that rise and keep their rule, argument bytes, fault states. Each column is passed over by a walk of
-// its own where its test is of its numbers alone, and the routes are searched for protected ids and responses.
-ghost use Rattle.std.specs.Prelude.{◌≡◌, true, [], ◌*◌, ◌≤◌, length, take, drop};
+// its own where its test is of its numbers alone, and the routes are searched for protected ids and responses. That counts are within
+// their limits and that routes rise is asked in each contract and is no invariant of a type: C lends any bytes, and this judges them.
+ghost use Rattle.std.specs.Prelude.{◌≡◌, ◌&&◌, true, [], ◌*◌, ◌≤◌, length, take, drop};
 ghost use Rattle.state.specs.Tables.{listed, route_at};
 ghost use Rattle.state.specs.Lookup.{Column};
 ghost use Rattle.state.specs.Test.{all_zero, args_zero, routes_kept, protected_kept, rows_kept, states_ok};
 ghost use Rattle.state_check.specs.TableParts.{argless};
 
-use crate::arrays::{at_most, dests_ok, none_own, rising, zero_bytes};
-use crate::values::{both, state_ok};
+use crate::arrays::{at_most, dests_ok, none_own, rising, zero_bytes, zero_words};
+use crate::values::state_ok;
 use state::rules;
 use state_lookup::holds;
+
+// The bytes from a place on are zero.
+// internal: for `args_keep`, which has seen that the place is there.
+fn zero_from(bytes: &[u8], from: usize) -> bool
+    requires { from ≤ length bytes.now }
+    ensures { result ≡ all_zero (drop from bytes.now) }
+{
+    zero_bytes(&bytes[from..])
+}
 
 // At most 16 arguments in each of n rows, and zero behind them and behind the last row.
 // internal: for the judge of a state, which has seen that the counts are within their limits.
@@ -17,18 +27,39 @@ pub(crate) fn args_keep<'a>(counts: &'a [u8], n: usize, args: &'a [u8]) -> bool
     requires { (n ≤ length counts.now) × (16 * n ≤ length args.now) }
     ensures { result ≡ args_zero (take n counts.now) args.now }
 {
-    let mut k = 0;
-    while k < n {
+    for k in 0..n {
         let count = counts[k];
         if count > 16 {
             return false;
         }
-        if !zero_bytes(&args[16 * k..16 * k + 16], count as usize) {
+        if !zero_from(&args[16 * k..16 * k + 16], count as usize) {
             return false;
         }
-        k += 1;
     }
-    zero_bytes(args, 16 * n)
+    zero_from(args, 16 * n)
+}
+
+// Fault ids and responses behind n rows are zero.
+// internal: for the judge of a state, which has seen that the counts are within their limits.
+pub(crate) fn words_unused<'a>(faultids: &'a [u16], responses: &'a [u16], n: usize) -> bool
+    requires { (n ≤ length faultids.now) × (n ≤ length responses.now) }
+    ensures { result ≡ (all_zero (drop n faultids.now) && all_zero (drop n responses.now)) }
+{
+    zero_words(&faultids[n..]) && zero_words(&responses[n..])
+}
+
+// So are the bytes of such rows, their states among them.
+// internal: for the judge of a state, which has seen that the counts are within their limits.
+pub(crate) fn bytes_unused<'a>(
+    latching: &'a [u8],
+    argcounts: &'a [u8],
+    states: &'a [u8],
+    n: usize,
+) -> bool
+    requires { (n ≤ length latching.now) × (n ≤ length argcounts.now) × (n ≤ length states.now) }
+    ensures { result ≡ (all_zero (drop n latching.now) && (all_zero (drop n argcounts.now) && all_zero (drop n states.now))) }
+{
+    zero_bytes(&latching[n..]) && zero_bytes(&argcounts[n..]) && zero_bytes(&states[n..])
 }
 
 // The routes rise and keep their rule.
@@ -37,10 +68,8 @@ pub(crate) fn routes_keep<'a>(base: u16, ids: &'a [u16], dests: &'a [u8], n: usi
     requires { (n ≤ length ids.now) × (n ≤ length dests.now) × (base ≤ 65528) }
     ensures { result ≡ routes_kept base (listed (route_at ids.now dests.now) 0 n) }
 {
-    both(
-        rising(ids, n),
-        both(dests_ok(dests, n), none_own(ids, n, base)),
-    )
+    let used = &ids[..n];
+    rising(used) & (dests_ok(&dests[..n]) & none_own(used, base))
 }
 
 // The protected ids rise and keep their rule.
@@ -55,17 +84,15 @@ pub(crate) fn protected_keep<'a>(
     requires { Column 128 ids.now n × (m ≤ length protected.now) }
     ensures { result ≡ protected_kept base (take n ids.now) (take m protected.now) }
 {
-    if !rising(protected, m) {
+    let used = &protected[..m];
+    if !rising(used) {
         return false;
     }
-    let mut k = 0;
-    while k < m {
-        let id = protected[k];
-        let routed = holds(ids, n, state_lookup::ROUTES, id);
-        if !rules::protected_ok(base, routed, id) {
+    for id in used {
+        let routed = holds(ids, n, state_lookup::ROUTES, *id);
+        if !rules::protected_ok(base, routed, *id) {
             return false;
         }
-        k += 1;
     }
     true
 }
@@ -83,18 +110,17 @@ pub(crate) fn rows_keep<'a>(
     requires { Column 128 ids.now n × (m ≤ length faultids.now) × (m ≤ length responses.now) × (m ≤ length latching.now) }
     ensures { result ≡ rows_kept (take n ids.now) (argless faultids.now responses.now latching.now m) }
 {
-    if !rising(faultids, m) {
+    if !rising(&faultids[..m]) {
         return false;
     }
-    if !at_most(latching, m, 1) {
+    if !at_most(&latching[..m], 1) {
         return false;
     }
-    let mut k = 0;
-    while k < m {
-        if !holds(ids, n, state_lookup::ROUTES, responses[k]) {
+    let used = &responses[..m];
+    for id in used {
+        if !holds(ids, n, state_lookup::ROUTES, *id) {
             return false;
         }
-        k += 1;
     }
     true
 }
@@ -106,10 +132,8 @@ pub(crate) fn states_keep<'a>(latching: &'a [u8], n: usize, states: &'a [u8]) ->
     ensures { result ≡ states_ok (argless [] [] latching.now n) states.now }
 {
     let mut ok = true;
-    let mut k = 0;
-    while k < n {
-        ok = both(state_ok(latching[k], states[k]), ok);
-        k += 1;
+    for k in 0..n {
+        ok &= state_ok(latching[k], states[k]);
     }
     ok
 }

@@ -3,12 +3,12 @@
 // specs/Search says at which; that the machine code loads these is measured, no contract speaks of it. `search` answers for any
 // column, in its own words; that ids rise is asked where the answer is to be the id's place. It goes down from the count: of a
 // search that goes up from the first row the first look is at a place that the compiler knows, and it was made whether or not the
-// table reached so far.
+// table reached so far. It is no `binary_search` of the library, since at which rows it looks is proved, and README says it.
 #![tactic(auto)]
 
 ghost use Rattle.std.specs.Prelude.{◌≡◌, ℕ, ◌≤◌, length, take};
 ghost use Rattle.state.specs.Rules.{member};
-ghost use Rattle.state.specs.Lookup.{place_in, Column};
+ghost use Rattle.state.specs.Lookup.{Placed, Column};
 ghost use Rattle.state_lookup.specs.Search.{half, sought};
 
 // The search, down from behind the last id with hops of `first`, half of it, and so on to 1. The id to which the last hop
@@ -47,13 +47,14 @@ pub const ROUTES: usize = 128;
 
 pub const ROWS: usize = 32;
 
-// The place of an id among the first n of a column; n where there is none.
+// The place of an id among the first n of a column, if it is there.
 // internal: for the path's own stages, whose tables keep their rules.
-pub fn place(ids: &[u16], n: usize, first: usize, id: u16) -> usize
+pub fn place(ids: &[u16], n: usize, first: usize, id: u16) -> Option<usize>
     requires { Column first ids.now n }
-    ensures { (e : ℕ) → first ≡ half e → (result ≡ place_in id (take n ids.now)) × (result ≤ n) }
+    ensures { (e : ℕ) → first ≡ half e → Placed id ids.now n result }
 {
-    search(ids, n, first, id)
+    let k = search(ids, n, first, id);
+    if k < n { Some(k) } else { None }
 }
 
 // The id is one of the first n of a column.
@@ -62,6 +63,5 @@ pub fn holds(ids: &[u16], n: usize, first: usize, id: u16) -> bool
     requires { Column first ids.now n }
     ensures { (e : ℕ) → first ≡ half e → result ≡ member id (take n ids.now) }
 {
-    let k = search(ids, n, first, id);
-    k < n
+    search(ids, n, first, id) < n
 }

@@ -1,38 +1,59 @@
 // The replies of a replay as text: a line for each, its four numbers. The bytes of a command behind them are passed over.
-use crate::input;
-use replay_rules::recording;
+use replay_rules::recording::HEAD_SIZE;
+use std::fmt;
+use std::fmt::Write;
+use text::Page;
+use wire::word::little;
 
-// One line, from the numbers that a reply begins with.
-fn line(text: &mut [u8], at: usize, head: &[u8]) -> usize {
-    let id = wire::word::little(wire::word::byte_at(head, 1), wire::word::byte_at(head, 2));
-    let written = wire::word::little(wire::word::byte_at(head, 4), wire::word::byte_at(head, 5));
-    let n = text::put_number(text, at, wire::word::byte_at(head, 0) as u64, b' ');
-    let n = text::put_number(text, n, id as u64, b' ');
-    let n = text::put_number(text, n, wire::word::byte_at(head, 3) as u64, b' ');
-    text::put_number(text, n, written as u64, b'\n')
+// The numbers that a reply begins with.
+#[derive(Clone, Copy)]
+struct Reply {
+    answer: u8,
+    id: u16,
+    dest: u8,
+    written: u16,
 }
 
-// How many bytes a reply takes.
-fn size(head: &[u8]) -> usize {
-    let written = wire::word::little(wire::word::byte_at(head, 4), wire::word::byte_at(head, 5));
-    written as usize + recording::HEAD_SIZE
-}
-
-// Writes the lines of so many replies. The text is written out before it could lack the room for a line.
-pub fn write(rt: &impl Print, replies: &[u8], count: usize) {
-    let mut text = [0u8; 4096];
-    let mut n = 0;
-    let mut at = 0;
-    let mut k = 0;
-    while k < count {
-        let head = input::part(replies, at, replies.len());
-        n = line(&mut text, n, head);
-        at = input::forward(at, size(head), replies.len());
-        if 4000 < n {
-            let _ = rt.write_all(text::first(&text, n));
-            n = 0;
+impl From<[u8; HEAD_SIZE]> for Reply {
+    fn from(head: [u8; HEAD_SIZE]) -> Reply {
+        let [answer, id_low, id_high, dest, written_low, written_high] = head;
+        Reply {
+            answer,
+            id: little(id_low, id_high),
+            dest,
+            written: little(written_low, written_high),
         }
-        k += 1;
     }
-    let _ = rt.write_all(text::first(&text, n));
+}
+
+impl fmt::Display for Reply {
+    fn fmt<W: fmt::Write>(&self, f: &mut fmt::Formatter<W>) -> fmt::Result {
+        write!(
+            f,
+            "{} {} {} {}",
+            self.answer, self.id, self.dest, self.written
+        )
+    }
+}
+
+// Writes the lines out. They wait in fixed memory: the program allocates nothing. A `BufWriter` would keep what can't be written,
+// and try it again.
+fn write_out(rt: &impl Print, lines: &mut Page<4096>) {
+    let _ = rt.write_all(lines.bytes());
+    lines.clear();
+}
+
+// Writes the lines of these replies. The text is written out before it could lack the room for a line.
+pub fn write(rt: &impl Print, replies: &[u8]) {
+    let mut lines = Page::new();
+    let mut rest = replies;
+    while let Some((head, behind)) = rest.split_first_chunk() {
+        let reply = Reply::from(*head);
+        let _ = writeln!(lines, "{reply}");
+        rest = behind.get(usize::from(reply.written)..).unwrap_or(&[]);
+        if 4000 < lines.bytes().len() {
+            write_out(rt, &mut lines);
+        }
+    }
+    write_out(rt, &mut lines);
 }

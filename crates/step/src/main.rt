@@ -14,25 +14,22 @@ use std::rt::Files;
 fn load(rt: &impl Files) -> Loaded {
     let mut bytes = [0u8; 65536];
     match fs::open(rt, "path.cfg") {
-        Ok(mut file) => {
-            let n = input::fill(&mut file, &mut bytes);
-            image_load::load::load(input::part(&bytes, 0, n))
-        }
+        Ok(mut file) => image_load::load::load(input::fill(&mut file, &mut bytes)),
         Err(_error) => image_load::load::load(&[]),
     }
 }
 
 fn main(rt: HostRuntime) {
-    let loaded = load(&rt);
-    let mut line = [0u8; 64];
-    let n = text::put_number(&mut line, 0, loaded.answer as u64, b' ');
-    let n = text::put_number(&mut line, n, loaded.offset as u64, b'\n');
-    let _ = rt.write_all(text::first(&line, n));
-    if loaded.answer != 0 {
-        let _ = rt.write_all(b"bad\n");
+    let Loaded {
+        answer,
+        offset,
+        config,
+        run,
+    } = load(&rt);
+    let _ = println!(rt; "{answer} {offset}");
+    if answer != 0 {
+        let _ = println!(rt; "bad");
         return;
     }
-    let config = loaded.config;
-    let run = loaded.run;
     session::run_all(&rt, config, run);
 }

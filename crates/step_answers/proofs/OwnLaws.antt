@@ -1,5 +1,5 @@
 -- Laws of the own commands: which one an id selects, and each way to an answer.
-use Rattle.std.specs.Prelude.{◌≡◌, Bool, not, ◌&&◌, ◌||◌, ◌⊎◌, List, ℕ, zero, suc, ◌+◌, ◌-◌, ◌<◌, ◌≤◌, leb, length}
+use Rattle.std.specs.Prelude.{◌≡◌, Bool, not, ◌&&◌, ◌||◌, ◌⊎◌, List, ℕ, zero, suc, ◌+◌, ◌-◌, ◌<◌, ◌≤◌, leb, length, Option as Handed, Some, None}
 use Rattle.std.proofs.Math.Path.{refl}
 use Rattle.std.proofs.Common.{sym, ap, subst, ◌∙◌, inl, inr, arith}
 use Rattle.std.proofs.Math.Bool.{true, false}
@@ -13,8 +13,6 @@ use Rattle.state.proofs.Settings.{both}
 use Rattle.step_effects.specs.FaultStates.{place_of, is_place}
 use Rattle.step_answers.specs.declared.own.Own.{Own}
 use Rattle.step_answers.specs.declared.own.Own.TheVariants.{Arm, ResetCounters, NoOp, NoOpWithArgument, Enable, Disable, Clear, ClearAll}
-use Rattle.step_answers.specs.declared.own.Selection.{Selection}
-use Rattle.step_answers.specs.declared.own.Selection.TheVariants.{Command, Nothing}
 use Rattle.step_answers.specs.Own.{rule_of, selection_of, own_commands, numbered, own_command, fault_arg}
 use Rattle.step_answers.specs.Answers.{own_answer}
 use Rattle.step_answers.specs.OwnLaws.{Selects, is_own, not_own}
@@ -81,24 +79,24 @@ module _ (base id : ℕ) where
   from_base h k e l = only_selects (is_own k (simp (le-leb base id h, le-leb id (base + 7) (omega arith))) e)
 
 -- what is handed on tells it
-abbrev chosen : Selection → Option Own
-chosen (Command k n) = some k
-chosen Nothing = none
+abbrev chosen : Handed (Own × ℕ) → Option Own
+chosen (Some (k, n)) = some k
+chosen None = none
 
-abbrev asked : Selection → ℕ
-asked (Command k n) = n
-asked Nothing = 0
+abbrev asked : Handed (Own × ℕ) → ℕ
+asked (Some (k, n)) = n
+asked None = 0
 
 chosen_is : (o : Option Own) → o ≡ chosen (selection_of o)
 chosen_is none = refl
 chosen_is (some k) = refl
 
-pub command_is : (o : Option Own) {r : Selection} (k : Own) (n : ℕ) → r ≡ selection_of o → r ≡ Command k n → (o ≡ some k) × (n ≡ (rule_of k).wanted)
+pub command_is : (o : Option Own) {r : Handed (Own × ℕ)} (k : Own) (n : ℕ) → r ≡ selection_of o → r ≡ Some (k, n) → (o ≡ some k) × (n ≡ (rule_of k).wanted)
 command_is o k n e c =
     let q : o ≡ some k = chosen_is o ∙ ap chosen (sym e ∙ c) in
     (q, ap asked (sym c ∙ e) ∙ ap (λ (x : Option Own). asked (selection_of x)) q)
 
-pub nothing_is : (o : Option Own) {r : Selection} → r ≡ selection_of o → r ≡ Nothing → o ≡ none
+pub nothing_is : (o : Option Own) {r : Handed (Own × ℕ)} → r ≡ selection_of o → r ≡ None → o ≡ none
 nothing_is o e c = chosen_is o ∙ ap chosen (sym e ∙ c)
 
 -- ---- the answer

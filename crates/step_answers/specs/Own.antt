@@ -1,12 +1,10 @@
 -- Document 01, "Own commands": which command an id selects, and the argument bytes that it takes.
-use Rattle.std.specs.Prelude.{Bool, true, false, cond, List, [], ◌∷◌, ℕ, ◌-◌, eqb}
+use Rattle.std.specs.Prelude.{Bool, true, false, cond, List, [], ◌∷◌, ℕ, ◌-◌, eqb, Option as Handed, Some, None}
 use Rattle.std.proofs.Math.Option.{Option, none, some}
 use Rattle.packet_rules.specs.Layout.{byte, word}
 use Rattle.state.specs.Rules.{own}
 use Rattle.step_answers.specs.declared.own.Own.{Own}
 use Rattle.step_answers.specs.declared.own.Own.TheVariants.{Arm, ResetCounters, NoOp, NoOpWithArgument, Enable, Disable, Clear, ClearAll}
-use Rattle.step_answers.specs.declared.own.Selection.{Selection}
-use Rattle.step_answers.specs.declared.own.Selection.TheVariants.{Command, Nothing}
 
 -- what the paper says of each: its number, its argument bytes (the timeout of an arm, the fault id of enable, disable and
 -- clear), whether it acts on the row of a fault id, whether it resets the counters, and what is answered once it is done
@@ -40,9 +38,9 @@ unfoldable pub own_command : ℕ → ℕ → Option Own
 own_command base id = cond (own base id) (numbered (id - base) own_commands) none
 
 -- as it is handed on, with its argument bytes
-abbrev pub selection_of : Option Own → Selection
-selection_of none = Nothing
-selection_of (some k) = Command k (rule_of k).wanted
+abbrev pub selection_of : Option Own → Handed (Own × ℕ)
+selection_of none = None
+selection_of (some k) = Some (k, (rule_of k).wanted)
 
 -- the fault id in the arguments
 abbrev pub fault_arg : List ℕ → ℕ

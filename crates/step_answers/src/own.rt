@@ -15,32 +15,23 @@ pub enum Own {
     ClearAll,
 }
 
-// What an id selects: an own command and the argument bytes that it takes, or none.
-#[derive(Clone, Copy)]
-pub enum Selection {
-    Command(Own, usize),
-    Nothing,
-}
-
-// The id less own base selects, 0 to 7.
-pub fn selected(base: u16, id: u16) -> Selection
+// What an id selects, if it is an own id: the command, and the argument bytes that it takes. The id less own base says which,
+// 0 to 7.
+pub fn selected(base: u16, id: u16) -> Option<(Own, usize)>
     ensures { result ≡ selection_of (own_command base id) }
 {
-    if id < base {
-        return Selection::Nothing;
-    }
-    match id - base {
+    match id.checked_sub(base)? {
         // the timeout
-        0 => Selection::Command(Own::Arm, 1),
-        1 => Selection::Command(Own::ResetCounters, 0),
-        2 => Selection::Command(Own::NoOp, 0),
-        3 => Selection::Command(Own::NoOpWithArgument, 4),
+        0 => Some((Own::Arm, 1)),
+        1 => Some((Own::ResetCounters, 0)),
+        2 => Some((Own::NoOp, 0)),
+        3 => Some((Own::NoOpWithArgument, 4)),
         // the fault id
-        4 => Selection::Command(Own::Enable, 2),
-        5 => Selection::Command(Own::Disable, 2),
-        6 => Selection::Command(Own::Clear, 2),
-        7 => Selection::Command(Own::ClearAll, 0),
-        _ => Selection::Nothing,
+        4 => Some((Own::Enable, 2)),
+        5 => Some((Own::Disable, 2)),
+        6 => Some((Own::Clear, 2)),
+        7 => Some((Own::ClearAll, 0)),
+        _ => None,
     }
 }
 

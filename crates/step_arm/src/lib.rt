@@ -1,6 +1,6 @@
 // The arm record. What an accepted packet and a tick make of it is worked out by value (`set_by`, `tick_by`); the record that is
 // kept changes in `on_packet` and `on_tick` only, to which it is lent. `packet_of` and `tick_of` lend a record that was passed by
-// value, so that whoever calls them lends no struct.
+// value, so that whoever calls them lends no struct. Answers go by their numbers, as document 01 has them and C reads them.
 #![tactic(auto)]
 
 ghost use Rattle.std.specs.Prelude.{◌≡◌};
@@ -21,14 +21,12 @@ fn set_by(n: u8, ticks: u16) -> Arm
     ensures { result ≡ arm_set n ticks }
 {
     if n == 11 {
-        return Arm {
-            armed: true,
-            ticks: ticks,
-        };
-    }
-    Arm {
-        armed: false,
-        ticks: 0,
+        Arm { armed: true, ticks }
+    } else {
+        Arm {
+            armed: false,
+            ticks: 0,
+        }
     }
 }
 
@@ -37,34 +35,22 @@ fn set_by(n: u8, ticks: u16) -> Arm
 fn tick_by(arm: Arm) -> Ticked
     ensures { result ≡ ticked_by arm }
 {
-    if !arm.armed {
-        return Ticked {
-            arm: arm,
-            answer: 14,
-        };
-    }
-    let ticks = arm.ticks;
-    if ticks == 0 {
-        return Ticked {
-            arm: arm,
-            answer: 14,
-        };
-    }
-    if ticks == 1 {
-        return Ticked {
+    match (arm.armed, arm.ticks) {
+        (false, _) | (true, 0) => Ticked { arm, answer: 14 },
+        (true, 1) => Ticked {
             arm: Arm {
                 armed: false,
                 ticks: 0,
             },
             answer: 15,
-        };
-    }
-    Ticked {
-        arm: Arm {
-            armed: true,
-            ticks: ticks - 1,
         },
-        answer: 14,
+        (true, ticks) => Ticked {
+            arm: Arm {
+                armed: true,
+                ticks: ticks - 1,
+            },
+            answer: 14,
+        },
     }
 }
 

@@ -1,207 +1,146 @@
 // Steps at the edges of the rules on configuration C of document 01: output room, states that break their rules, own commands
-// and fault numbers. Prints of each its name, the four numbers, the arm record, the first row's state and the counters.
+// and fault numbers. Prints of each its name, the four numbers, the arm record, the first row's state and the counters. What
+// can't be written is lost, and the program goes on.
 #![tactic(auto)]
 
 use image_load::types::Loaded;
-use state::types::{Config, Counts, Run};
+use state::types::{Arm, Config, Run};
+use std::fmt::Write;
 use step_rules::types::Stepped;
-
-const C: [u8; 42] = [
-    0x06, 0x00, 0x01, 0x00, 0x01, 0x00, 0x02, 0x00, 0x64, 0x00, 0x03, 0x00, 0x02, 0x00, 0x0A, 0x00,
-    0x01, 0x03, 0x00, 0x02, 0x00, 0x14, 0x00, 0x02, 0x02, 0x00, 0x03, 0x00, 0x14, 0x00, 0x08, 0x00,
-    0x04, 0x00, 0x07, 0x00, 0x0A, 0x00, 0x01, 0x01, 0x01, 0xAA,
-];
-
-const PAD: [u8; 12] = [
-    0x18, 0x01, 0xC0, 0x00, 0x00, 0x05, 0x01, 0xD2, 0x00, 0x0A, 0x05, 0x00,
-];
+use text::Page;
+use worked::{C, PAD};
 
 fn main() {
-    let loaded = image_load::load::load(&C);
-    rooms(loaded);
-    fault_room(loaded);
-    broken(loaded);
-    broken_run(loaded);
-    own(loaded);
-    on_rows(loaded);
-    lasting(loaded);
+    let Loaded { config, run, .. } = image_load::load::load(&C);
+    rooms(config, run);
+    broken(config, run);
+    own(config, run);
+    on_rows(config, run);
+    lasting(config, run);
 }
 
-// Four numbers, a blank behind each.
-fn four(out: &mut [u8], at: usize, a: u64, b: u64, c: u64, d: u64) -> usize {
-    let n = text::put_number(out, at, a, b' ');
-    let n = text::put_number(out, n, b, b' ');
-    let n = text::put_number(out, n, c, b' ');
-    text::put_number(out, n, d, b' ')
-}
-
-// The name, the answer's four numbers, the arm record and the state of the first fault row.
-fn show(name: &[u8], s: Stepped) {
-    let mut out = [0u8; 128];
-    let run = s.run;
-    let first = run.states[0];
-    let n = text::put(&mut out, 0, name);
-    let n = text::put(&mut out, n, b": ");
-    let n = four(
-        &mut out,
-        n,
-        s.answer.answer as u64,
-        s.answer.id as u64,
-        s.answer.dest as u64,
-        s.answer.written as u64,
+// One line of a step: the name, the answer's four numbers, the arm record, the state of the first fault row, and A, R, D, P, U,
+// I, F.
+fn line(name: &str, s: Stepped) {
+    let a = s.answer;
+    let Arm { armed, ticks } = s.run.standing.arm;
+    let armed = u8::from(armed);
+    let row = s.run.states[0];
+    let c = s.run.standing.counts;
+    let mut page = Page::<256>::new();
+    let _ = write!(
+        page,
+        "{name}: {} {} {} {} armed {armed} {ticks} row {row} ",
+        a.answer, a.id, a.dest, a.written
     );
-    let n = text::put(&mut out, n, b"armed ");
-    let n = text::put_number(&mut out, n, run.standing.arm.armed as u64, b' ');
-    let n = text::put_number(&mut out, n, run.standing.arm.ticks as u64, b' ');
-    let n = text::put(&mut out, n, b"row ");
-    let n = text::put_number(&mut out, n, wide(first), b' ');
-    io::write_all(1, text::first(&out, n));
-}
-
-fn wide(x: u8) -> u64 {
-    x as u64
-}
-
-// A, R, D, P, U, I, F.
-fn show_counts(c: Counts) {
-    let mut out = [0u8; 128];
-    let n = text::put(&mut out, 0, b"counts ");
-    let n = four(&mut out, n, c.a as u64, c.r as u64, c.d as u64, c.p as u64);
-    let n = text::put_number(&mut out, n, c.u as u64, b' ');
-    let n = text::put_number(&mut out, n, c.i as u64, b' ');
-    let n = text::put_number(&mut out, n, c.f as u64, b'\n');
-    io::write_all(1, text::first(&out, n));
-}
-
-// One line of a step.
-fn line(name: &[u8], s: Stepped) {
-    show(name, s);
-    let run = s.run;
-    show_counts(run.standing.counts);
+    let _ = writeln!(
+        page,
+        "counts {} {} {} {} {} {} {}",
+        c.a, c.r, c.d, c.p, c.u, c.i, c.f
+    );
+    io::write_all(1, page.bytes());
 }
 
 // Output room 260 serves, 259 and 0 give 21.
-fn rooms(l: Loaded) {
+fn rooms(config: Config, run: Run) {
     let mut whole = [0u8; 260];
-    let s = step_any_packet::step_packet(l.config, l.run, &PAD, &mut whole);
-    line(b"room 260", s);
+    let s = step_any_packet::step_packet(config, run, &PAD, &mut whole);
+    line("room 260", s);
     let mut short = [0u8; 259];
-    let s = step_any_packet::step_packet(l.config, l.run, &PAD, &mut short);
-    line(b"room 259", s);
-    let s = step_any_packet::step_packet(l.config, l.run, &[], &mut short[..0]);
-    line(b"room 0", s);
+    let s = step_any_packet::step_packet(config, run, &PAD, &mut short);
+    line("room 259", s);
+    let s = step_any_packet::step_packet(config, run, &[], &mut []);
+    line("room 0", s);
+    let s = step_any_fault::step_fault(config, run, 7, &mut short);
+    line("fault, room 259", s);
 }
 
-fn fault_room(l: Loaded) {
-    let mut short = [0u8; 259];
-    let s = step_any_fault::step_fault(l.config, l.run, 7, &mut short);
-    line(b"fault, room 259", s);
-}
-
-// Each of the three steps on one state.
-fn all_three(config: Config, run: Run) {
+// Each of the three steps on one state that breaks its rules.
+fn all_three(name: &str, config: Config, run: Run) {
+    let mut page = Page::<256>::new();
+    let _ = writeln!(page, "{name}");
+    io::write_all(1, page.bytes());
     let mut room = [0u8; 260];
     let s = step_any_packet::step_packet(config, run, &PAD, &mut room);
-    line(b"  packet", s);
+    line("  packet", s);
     let s = step_any_tick::step_tick(config, run);
-    line(b"  tick", s);
+    line("  tick", s);
     let s = step_any_fault::step_fault(config, run, 7, &mut room);
-    line(b"  fault", s);
+    line("  fault", s);
 }
 
-// Configurations that break their rules.
-fn broken(l: Loaded) {
-    let run = l.run;
-    let mut c = l.config;
+// Configurations that break their rules, and runs.
+fn broken(config: Config, run: Run) {
+    let mut c = config;
     c.numbers.nroutes = 129;
-    io::write_all(1, b"129 routes\n");
-    all_three(c, run);
-    c = l.config;
+    all_three("129 routes", c, run);
+    c = config;
     c.args[511] = 1;
-    io::write_all(1, b"an unused argument byte\n");
-    all_three(c, run);
-}
-
-// Runs that break their rules.
-fn broken_run(l: Loaded) {
-    let config = l.config;
-    let mut r = l.run;
+    all_three("an unused argument byte", c, run);
+    let mut r = run;
     r.states[0] = 3;
-    io::write_all(1, b"fault state 3\n");
-    all_three(config, r);
-    r = l.run;
+    all_three("fault state 3", config, r);
+    r = run;
     r.states[31] = 1;
-    io::write_all(1, b"a state of an unused row\n");
-    all_three(config, r);
+    all_three("a state of an unused row", config, r);
 }
 
-// A packet from the ground: header, function code 0, the checksum that makes the XOR zero, id and arguments.
-fn make(b: &mut [u8], id: u16, args: &[u8]) -> usize {
-    let data = 3 + args.len() % 256;
-    let n = text::put(
-        b,
-        0,
-        &[
-            0x18,
-            0x01,
-            0xC0,
-            0x00,
-            (data / 256) as u8,
-            (data % 256) as u8,
-            0,
-            0,
-        ],
-    );
-    let n = text::put(b, n, &[(id / 256) as u8, (id % 256) as u8]);
-    let n = text::put(b, n, args);
-    let sum = wire::xor::all(text::first(b, n));
-    text::put(b, 7, &[sum]);
-    n
-}
-
-// A step of a packet made so.
+// A step of a packet from the ground: APID 1, sequence count 0, function code 0.
 fn command(config: Config, run: Run, id: u16, args: &[u8]) -> Stepped {
-    let mut b = [0u8; 300];
+    let mut packet = [0u8; 265];
     let mut room = [0u8; 260];
-    let n = make(&mut b, id, args);
-    step_any_packet::step_packet(config, run, text::first(&b, n), &mut room)
+    let built = build_packet::build(1, 0, id, args, 0, &mut packet);
+    let size = usize::from(built.written).min(packet.len());
+    step_any_packet::step_packet(config, run, &packet[..size], &mut room)
+}
+
+// Commands one after another, each on the run that the one before it left: the name, the id, the arguments.
+fn commands(config: Config, first: Run, all: &[(&str, u16, &[u8])]) -> Run {
+    let mut run = first;
+    for &(name, id, args) in all {
+        let s = command(config, run, id, args);
+        line(name, s);
+        run = s.run;
+    }
+    run
 }
 
 // Own commands one argument short and long, a reset, and an id that is neither own nor routed.
-fn own(l: Loaded) {
-    let s = command(l.config, l.run, 100, &[]);
-    line(b"arm, no timeout", s);
-    let s = command(l.config, l.run, 100, &[1, 2]);
-    line(b"arm, two bytes", s);
-    let s = command(l.config, s.run, 102, &[]);
-    line(b"then a no-op", s);
-    let s = command(l.config, s.run, 101, &[]);
-    line(b"then a reset", s);
-    let s = command(l.config, s.run, 9, &[]);
-    line(b"then an unregistered id", s);
+fn own(config: Config, run: Run) {
+    commands(config, run, &[("arm, no timeout", 100, &[])]);
+    commands(
+        config,
+        run,
+        &[
+            ("arm, two bytes", 100, &[1, 2]),
+            ("then a no-op", 102, &[]),
+            ("then a reset", 101, &[]),
+            ("then an unregistered id", 9, &[]),
+        ],
+    );
 }
 
 // The fault row: disable, clear, enable; a fault id that no row has.
-fn on_rows(l: Loaded) {
-    let s = command(l.config, l.run, 105, &[0, 7]);
-    line(b"disable 7", s);
-    let s = command(l.config, s.run, 106, &[0, 7]);
-    line(b"then clear 7", s);
-    let s = command(l.config, s.run, 104, &[0, 7]);
-    line(b"then enable 7", s);
-    let s = command(l.config, s.run, 104, &[7, 0]);
-    line(b"then enable 1,792", s);
+fn on_rows(config: Config, run: Run) {
+    commands(
+        config,
+        run,
+        &[
+            ("disable 7", 105, &[0, 7]),
+            ("then clear 7", 106, &[0, 7]),
+            ("then enable 7", 104, &[0, 7]),
+            ("then enable 1,792", 104, &[7, 0]),
+        ],
+    );
 }
 
 // Timeout 0 lasts; a rejected packet leaves the arming; an accepted one takes it.
-fn lasting(l: Loaded) {
+fn lasting(config: Config, run: Run) {
     let mut room = [0u8; 260];
-    let s = command(l.config, l.run, 100, &[0]);
-    line(b"arm, timeout 0", s);
-    let s = step_any_tick::step_tick(l.config, s.run);
-    line(b"then a tick", s);
-    let s = step_any_packet::step_packet(l.config, s.run, &[1, 2, 3], &mut room);
-    line(b"then a rejected packet", s);
-    let s = command(l.config, s.run, 20, &[]);
-    line(b"then the protected command", s);
+    let armed = commands(config, run, &[("arm, timeout 0", 100, &[0])]);
+    let s = step_any_tick::step_tick(config, armed);
+    line("then a tick", s);
+    let s = step_any_packet::step_packet(config, s.run, &[1, 2, 3], &mut room);
+    line("then a rejected packet", s);
+    commands(config, s.run, &[("then the protected command", 20, &[])]);
 }

@@ -4,6 +4,8 @@ use Rattle.std.specs.Prelude.{ℕ, Bool, true, false, cond, ◌&&◌, List, [], 
 use Rattle.std.proofs.Math.Option.{Option, none, some}
 use Rattle.state.specs.Tables.{FaultRow, Tables, fault_id}
 use Rattle.state.specs.Lookup.{place_in}
+use Rattle.step_effects.specs.declared.faults.Event.{Event}
+use Rattle.step_effects.specs.declared.faults.Event.TheVariants.{Enable, Disable, Clear, Fault}
 
 -- the states
 abbrev pub disabled : ℕ
@@ -27,6 +29,12 @@ clear = 2
 
 abbrev pub fault : ℕ
 fault = 3
+
+abbrev pub number_of : Event → ℕ
+number_of Enable = enable
+number_of Disable = disable
+number_of Clear = clear
+number_of Fault = fault
 
 -- of a latching row: enabling leaves a latched row latched; clearing leaves a disabled row disabled; a fault latches an
 -- enabled row

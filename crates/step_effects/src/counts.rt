@@ -1,4 +1,4 @@
-// The seven counters: which of them a step moves. They wrap at 65,536.
+// The seven counters: which of them a step moves, by the number of its answer, as C reads it. They wrap at 65,536.
 ghost use Rattle.std.specs.Prelude.{◌≡◌, ◌<◌, ◌≢◌};
 ghost use Rattle.step_effects.specs.Counters.{up, moved_counts, fault_counts};
 
@@ -9,10 +9,7 @@ use state::types::{Counts, no_counts};
 fn bump(b: bool, x: u16) -> u16
     ensures { result ≡ up b x }
 {
-    if b {
-        return std::num::wrapping_add_u16(x, 1);
-    }
-    x
+    if b { x.wrapping_add(1) } else { x }
 }
 
 // After a packet with the answer n; `reset` is whether its id selects the reset. The answer that most packets get comes first, and
@@ -54,15 +51,14 @@ fn after_own(c: Counts, n: u8, reset: bool) -> Counts
     requires { (n < 22) × (n ≢ 10) }
     ensures { result ≡ moved_counts n reset c }
 {
-    let mut next = c;
-    next.a = bump(true, c.a);
-    if n != 12 {
-        return next;
+    if n == 12 && reset {
+        no_counts()
+    } else {
+        Counts {
+            a: bump(true, c.a),
+            ..c
+        }
     }
-    if !reset {
-        return next;
-    }
-    no_counts()
 }
 
 // After a fault with the answer n.

@@ -1,4 +1,5 @@
-// The dispatch writer: the bytes of a command at the start of the output.
+// The dispatch writer: the bytes of a command at the start of the output. The output is the caller's slice, so that it has the room is
+// asked in each contract on the way here and is no invariant of a type.
 ghost use Rattle.std.specs.Prelude.{◌≤◌, length};
 ghost use Rattle.step_effects.specs.Dispatch.{step_room, Wrote};
 

@@ -1,8 +1,8 @@
 // The response states of fault rows.
 ghost use Rattle.std.specs.Prelude.{◌≡◌, ℕ, ◌<◌, ◌≤◌, length, slice_index};
-ghost use Rattle.step_effects.specs.FaultStates.{next_state, row_after, clear_all};
+ghost use Rattle.step_effects.specs.FaultStates.{number_of, next_state, row_after, clear_all};
 
-// The states.
+// The states, as bytes: C lends them as such.
 pub const DISABLED: u8 = 0;
 
 pub const ENABLED: u8 = 1;
@@ -10,13 +10,13 @@ pub const ENABLED: u8 = 1;
 pub const LATCHED: u8 = 2;
 
 // The events.
-pub const ENABLE: u8 = 0;
-
-pub const DISABLE: u8 = 1;
-
-pub const CLEAR: u8 = 2;
-
-pub const FAULT: u8 = 3;
+#[derive(Clone, Copy, PartialEq, Eq)]
+pub enum Event {
+    Enable = 0,
+    Disable = 1,
+    Clear = 2,
+    Fault = 3,
+}
 
 // The next state of a latching row, by state (disabled, enabled, latched) and event (enable, disable, clear, fault).
 const NEXT: [[u8; 4]; 3] = [
@@ -25,10 +25,10 @@ const NEXT: [[u8; 4]; 3] = [
     [LATCHED, DISABLED, ENABLED, LATCHED],
 ];
 
-// internal: a state and an event of the table, which the rules of a state ensure.
-pub fn next(s: u8, e: u8) -> u8
-    requires { (s < 3) × (e < 4) }
-    ensures { result ≡ next_state s e }
+// internal: a state of the table, which the rules of a state ensure.
+pub fn next(s: u8, e: Event) -> u8
+    requires { s < 3 }
+    ensures { result ≡ next_state s (number_of e) }
 {
     NEXT[s as usize][e as usize]
 }
@@ -36,17 +36,15 @@ pub fn next(s: u8, e: u8) -> u8
 // The state of a row after an event: one that doesn't latch stays as it is at a fault.
 // internal: as `next`.
 #[tactic(auto, unfolding(crate::specs::FaultStates::row_after))]
-pub fn row_after(latching: u8, s: u8, e: u8) -> u8
-    requires { (s < 3) × (e < 4) }
-    ensures { result ≡ row_after latching s e }
+pub fn row_after(latching: u8, s: u8, e: Event) -> u8
+    requires { s < 3 }
+    ensures { result ≡ row_after latching s (number_of e) }
 {
-    if e != FAULT {
-        return next(s, e);
+    if e == Event::Fault && latching == 0 {
+        s
+    } else {
+        next(s, e)
     }
-    if latching == 0 {
-        return s;
-    }
-    next(s, e)
 }
 
 // Each fault state cleared, where they stand.
@@ -55,9 +53,7 @@ pub fn clear_all(states: &mut [u8; 32])
     requires { (length states.old ≡ 32) × ((k : ℕ) → slice_index states.old k ≤ 2) }
     ensures { states.new ≡ clear_all states.old }
 {
-    let mut k = 0;
-    while k < 32 {
-        states[k] = next(states[k], CLEAR);
-        k += 1;
+    for s in states.iter_mut() {
+        *s = next(*s, Event::Clear);
     }
 }

@@ -1,8 +1,9 @@
 -- What a lookup in lent columns says of the fault id that was looked up: the place that it means, and the row there; and what a
 -- state that keeps its rules may lend.
-use Rattle.std.specs.Prelude.{◌≡◌, true, List, [], ◌∷◌, map, ℕ, zero, suc, ◌<◌, ◌≤◌, length, get_or, take}
+use Rattle.std.specs.Prelude.{◌≡◌, refl, true, List, [], ◌∷◌, map, ℕ, zero, suc, ◌<◌, ◌≤◌, length, get_or, take, Option, None, Some, IsSome}
 use Rattle.std.proofs.Math.Option.{none, some}
-use Rattle.std.proofs.Common.{arith}
+use Rattle.std.proofs.Common.{arith, sym, ◌∙◌}
+use Rattle.std.proofs.lemmas.Bool.{false≢true}
 use Rattle.state.specs.declared.types.Config.{Config}
 use Rattle.state.specs.declared.types.Run.{Run}
 use Rattle.state.specs.Tables.{FaultRow, fault_id, routed, row_at, tables_of}
@@ -10,7 +11,8 @@ use Rattle.state.specs.Rules.{member}
 use Rattle.state.specs.Keeps.{Each, RowOk, Keeps}
 use Rattle.state.proofs.KeepsLaws.{member_kept}
 use Rattle.state.specs.Sized.{Sized}
-use Rattle.state.specs.Lookup.{place_in, Slots}
+use Rattle.state.specs.Lookup.{place_in, Placed, Slots}
+use Rattle.state.proofs.LookupLaws.{no_member}
 use Rattle.state.proofs.ArrayLaws.{listed_at, rows_count, fault_ids_are, routed_is}
 use Rattle.state.proofs.Columns.{route_column, protected_column, fault_column}
 use Rattle.step_effects.specs.FaultStates.{no_row, meant}
@@ -21,6 +23,12 @@ each_at : {A : Type 0} (P : A → Type 0) (d : A) (xs : List A) → Each P xs �
 each_at P d [] h i l = absurd (omega arith)
 each_at P d (x ∷ xs) h zero l = h.0
 each_at P d (x ∷ xs) h (suc i) l = each_at P d xs h.1 i (omega arith)
+
+-- an id that is there is found
+pub member_found : {limit : ℕ} {ids : List ℕ} {n : ℕ} → Slots limit ids n → (id : ℕ) (found : Option ℕ)
+    → member id (take n ids) ≡ true → Placed id ids n found → IsSome found
+member_found s id None m past = absurd (false≢true (sym (no_member s id _ refl past) ∙ m))
+member_found s id (Some k) m p = refl
 
 module _ (c : Config) where
   abbrev rows : List FaultRow

@@ -1,5 +1,5 @@
 -- What a step hands back, made here and nowhere else: the four numbers of an answer, and the answer with what is left of the run.
-use Rattle.std.specs.Prelude.{Bool, List, ℕ}
+use Rattle.std.specs.Prelude.{Bool, List, ℕ, Option}
 use Rattle.state.specs.declared.types.Arm.{Arm}
 use Rattle.state.specs.declared.types.Standing.{Standing}
 use Rattle.state.specs.declared.types.Run.{Run}
@@ -43,8 +43,8 @@ moved_from arm reset answer = record { arm = arm; reset = reset; answer = answer
 abbrev pub decision_from : Moved → Bool → Decision
 decision_from moved sends = record { moved = moved; sends = sends }
 
--- a fault before anything is sent on: the answer, and for 10 the place of the row
-abbrev pub responding_from : Answer → ℕ → Responding
+-- a fault before anything is sent on: the answer, and the place of the row whose response is to be sent, if one is
+abbrev pub responding_from : Answer → Option ℕ → Responding
 responding_from answer row = record { answer = answer; row = row }
 
 -- a step on any state: the standing that it leaves, and the answer

@@ -1,15 +1,16 @@
 -- The inner steps, to which columns and fault states are lent; the counters are the caller's. What such a step hands back and
 -- the states that it leaves are the step of document 01, for every configuration that has the lent columns.
-use Rattle.std.specs.Prelude.{◌≡◌, Bool, true, false, ◌&&◌, List, ℕ, ◌+◌, ◌*◌, ◌<◌, ◌≤◌, eqb, length, get_or, take}
+use Rattle.std.specs.Prelude.{◌≡◌, Bool, true, false, ◌&&◌, List, ℕ, ◌+◌, ◌*◌, ◌<◌, ◌≤◌, eqb, length, get_or, take, is_some, IfSome}
 use Rattle.std.proofs.Math.Option.{Option, some}
 use Rattle.wire.specs.Check.{check}
 use Rattle.packet_rules.specs.Layout.{command_id}
 use Rattle.packet_rules.specs.Judge.{arguments_of}
 use Rattle.state.specs.declared.types.Numbers.{Numbers}
 use Rattle.state.specs.declared.types.Config.{Config}
+use Rattle.state.specs.declared.lent.LentConfig.{LentConfig}
 use Rattle.state.specs.declared.types.Arm.{Arm}
 use Rattle.state.specs.declared.types.Standing.{Standing}
-use Rattle.state.specs.Tables.{tables_of, with_arm, with_counts, run_from}
+use Rattle.state.specs.Tables.{tables_of, config_from, with_arm, with_counts, run_from}
 use Rattle.state.specs.Rules.{member}
 use Rattle.state.specs.Lookup.{Column}
 use Rattle.step_rules.specs.declared.types.Answer.{Answer}
@@ -26,6 +27,7 @@ use Rattle.step_effects.specs.FaultStates.{enabled, place_of, meant, is_place, c
 use Rattle.step_answers.specs.declared.own.Own.{Own}
 use Rattle.step_answers.specs.Own.{is_reset, fault_arg}
 use Rattle.step_answers.specs.Answers.{own_answer, answer_to, fault_answer}
+use Rattle.step_answers.specs.AnswerLaws.{Lent}
 use Rattle.step_rules.specs.Step.{sent_answer, states_after, packet_step, packet_output, faulted_answer, fault_step, fault_output}
 
 -- no state is above 2, so that each has its row in the table of events
@@ -34,6 +36,16 @@ pub record StatesLent (states : List ℕ) : Type 0 where
   pub small : (j : ℕ) → get_or states j 0 ≤ 2
 
 -- ---- a packet
+
+-- the columns that a packet step looks at, of a configuration that is lent
+abbrev pub PacketsLent : LentConfig → Type 0
+PacketsLent l = Lent l.numbers l.routeids.now l.dests.now l.protected.now l.faultids.now
+
+-- any configuration that has these columns: the others are another's
+abbrev pub seen_by_packets : LentConfig → Config → Config
+seen_by_packets l other =
+    config_from l.numbers l.routeids.now l.dests.now l.protected.now l.faultids.now other.responses other.latching other.argcounts
+    other.args
 
 -- an accepted packet that gets the answer n; k is what its id selects
 abbrev pub moved_by : ℕ → Option Own → ℕ → List ℕ → ℕ → Moved
@@ -100,6 +112,26 @@ pub record RowsLent (n : Numbers) (routeids dests faultids responses latching ar
   pub latching_32 : length latching ≡ 32
   pub args_512 : length args ≡ 512
 
+-- those of a configuration that is lent
+abbrev pub RespondersLent : LentConfig → Type 0
+RespondersLent l = ResponsesLent l.numbers l.routeids.now l.dests.now l.faultids.now l.responses.now l.argcounts.now
+
+abbrev pub FaultsLent : LentConfig → Type 0
+FaultsLent l =
+    RowsLent l.numbers l.routeids.now l.dests.now l.faultids.now l.responses.now l.latching.now l.argcounts.now l.args.now
+
+-- any configuration that has the columns in which a response is found, and any that has those of a fault step: the others are
+-- another's
+abbrev pub seen_by_responses : LentConfig → Config → Config
+seen_by_responses l other =
+    config_from l.numbers l.routeids.now l.dests.now other.protected l.faultids.now l.responses.now other.latching
+    l.argcounts.now other.args
+
+abbrev pub seen_by_faults : LentConfig → Config → Config
+seen_by_faults l other =
+    config_from l.numbers l.routeids.now l.dests.now other.protected l.faultids.now l.responses.now l.latching.now
+    l.argcounts.now l.args.now
+
 abbrev pub fault_left : Standing → Answer → List ℕ → Stepped
 fault_left s r states = step_from (run_from (with_counts (fault_counts r.answer s.counts) s) states) r
 
@@ -110,13 +142,14 @@ pub record FaultMoves (c : Config) (before : List ℕ) (f : ℕ) (out : List ℕ
   pub long : length after ≡ length before
 
 -- a fault whose response is to be sent on: the place that its id means, and the row there, which is enabled
-pub record FaultSends (c : Config) (states : List ℕ) (f : ℕ) (r : Responding) : Type 0 where
-  pub place : meant (tables_of c) f ≡ some r.row
-  pub there : r.row < c.numbers.nrows
-  pub was_enabled : get_or states r.row 0 ≡ enabled
-  pub answer : r.answer ≡ faulted_answer (tables_of c) (some r.row) 10
+pub record FaultSends (c : Config) (states : List ℕ) (f : ℕ) (answer : Answer) (row : ℕ) : Type 0 where
+  pub place : meant (tables_of c) f ≡ some row
+  pub there : row < c.numbers.nrows
+  pub was_enabled : get_or states row 0 ≡ enabled
+  pub answer_is : answer ≡ faulted_answer (tables_of c) (some row) 10
 
 -- what a fault comes to before anything is sent on: its answer, and the row's place for 10
 pub record FaultResponds (c : Config) (states : List ℕ) (f : ℕ) (r : Responding) : Type 0 where
   pub answered : r.answer ≡ faulted_answer (tables_of c) (meant (tables_of c) f) (fault_answer states (meant (tables_of c) f))
-  pub sends : r.answer.answer ≡ 10 → FaultSends c states f r
+  pub for_10 : is_some r.row ≡ eqb r.answer.answer 10
+  pub sends : IfSome r.row (λ row. FaultSends c states f r.answer row)

@@ -4,7 +4,8 @@ ghost use Rattle.step_rules.specs.Makers.{bare_answer, named_answer, dispatched_
 
 use state::types::{Arm, Run, Standing, run_of};
 
-// The four numbers of an answer: the answer, the command id, the destination and the bytes written.
+// The four numbers of an answer: the answer, the command id, the destination and the bytes written. It crosses the C boundary, and
+// document 01 numbers the answers, so they are no enum.
 #[repr(C)]
 #[derive(Clone, Copy)]
 pub struct Answer {
@@ -31,18 +32,19 @@ pub struct Moved {
     pub answer: Answer,
 }
 
-// What a packet comes to before anything is sent on: what the step hands back, and whether its command is to be sent on.
+// What a packet comes to before anything is sent on: what the step hands back, and whether its command is to be sent on. What is
+// handed back stands either way, so the flag makes no Option of it (`PacketDecided` ties it to the answer 10).
 #[derive(Clone, Copy)]
 pub struct Decision {
     pub moved: Moved,
     pub sends: bool,
 }
 
-// What a fault comes to before anything is sent on: the answer, and for 10 the place of the row whose response is to be sent.
+// What a fault comes to before anything is sent on: the answer, and the place of the row whose response is to be sent, if one is.
 #[derive(Clone, Copy)]
 pub struct Responding {
     pub answer: Answer,
-    pub row: usize,
+    pub row: Option<usize>,
 }
 
 // What a step on any state leaves, where the fault states are lent and left where they stand.
@@ -98,7 +100,7 @@ pub fn decision_of(moved: Moved, sends: bool) -> Decision
 }
 
 // What a fault comes to before anything is sent on.
-pub fn responding_of(answer: Answer, row: usize) -> Responding
+pub fn responding_of(answer: Answer, row: Option<usize>) -> Responding
     ensures { result ≡ responding_from answer row }
 {
     Responding { answer, row }

@@ -2,7 +2,7 @@
 // there may be 255.
 #![tactic(auto)]
 
-ghost use Rattle.std.specs.Prelude.{◌≡◌, ◌+◌, ◌≤◌, length, take, drop};
+ghost use Rattle.std.specs.Prelude.{◌≡◌, ◌+◌, ◌≤◌, ◌<◌, length, take, drop};
 ghost use Rattle.wire.specs.Put.{put_at};
 
 use wire::put;
@@ -16,56 +16,35 @@ pub fn run(out: &mut [u8], at: usize, s: &[u8])
     let n = s.len();
     if n < 16 {
         few(out, at, s);
-        return;
+    } else if n < 32 {
+        ends::<16>(out, at, s);
+    } else if n < 64 {
+        ends::<32>(out, at, s);
+    } else {
+        most(out, at, s);
     }
-    if n < 32 {
-        sixteen(out, at, s, 0);
-        sixteen(out, at, s, n - 16);
-        return;
-    }
-    if n < 64 {
-        many(out, at, s);
-        return;
-    }
-    most(out, at, s);
 }
 
-// Two blocks of four or of eight, or one by one.
+// Two blocks of four or of eight, or no block.
 // internal: for `run`, which has seen that there are so few.
 fn few(out: &mut [u8], at: usize, s: &[u8])
-    requires { (length s.now ≤ 16) × (at + length s.now ≤ length out.old) }
+    requires { (length s.now < 16) × (at + length s.now ≤ length out.old) }
     ensures { out.new ≡ put_at out.old at s.now }
 {
     let n = s.len();
     if n < 4 {
         put::bytes(out, at, s);
-        return;
+    } else if n < 8 {
+        ends::<4>(out, at, s);
+    } else {
+        ends::<8>(out, at, s);
     }
-    if n < 8 {
-        four(out, at, s, 0);
-        four(out, at, s, n - 4);
-        return;
-    }
-    eight(out, at, s, 0);
-    eight(out, at, s, n - 8);
 }
 
-// Two blocks from the start and two up to the end: no loop.
+// Sixty-four bytes in each turn, and the last sixty-four up to the end. The turns are counted by hand: the compiler writes out
+// eight turns of a `for` over steps of sixty-four, of which there are three at most, and so it takes 17 instructions more and
+// 24 bytes of stack.
 // internal: for `run`, which has seen that there are so many.
-fn many(out: &mut [u8], at: usize, s: &[u8])
-    requires { (32 ≤ length s.now) × (length s.now ≤ 64) × (at + length s.now ≤ length out.old) }
-    ensures { out.new ≡ put_at out.old at s.now }
-{
-    let tail = s.len() - 32;
-    sixteen(out, at, s, 0);
-    sixteen(out, at, s, 16);
-    sixteen(out, at, s, tail);
-    sixteen(out, at, s, tail + 16);
-}
-
-// Four blocks in each turn, and the last four up to the end. They are written out, since the compiler would not put so
-// large a function in place of two calls.
-// internal: for `run`, which has seen that there are sixty-four.
 fn most(out: &mut [u8], at: usize, s: &[u8])
     requires { (64 ≤ length s.now) × (at + length s.now ≤ length out.old) }
     ensures { out.new ≡ put_at out.old at s.now }
@@ -73,71 +52,29 @@ fn most(out: &mut [u8], at: usize, s: &[u8])
     let last = s.len() - 64;
     let mut done = 0;
     while done < last {
-        sixteen(out, at, s, done);
-        sixteen(out, at, s, done + 16);
-        sixteen(out, at, s, done + 32);
-        sixteen(out, at, s, done + 48);
+        block::<64>(out, at, s, done);
         done += 64;
     }
-    sixteen(out, at, s, last);
-    sixteen(out, at, s, last + 16);
-    sixteen(out, at, s, last + 32);
-    sixteen(out, at, s, last + 48);
+    block::<64>(out, at, s, last);
 }
 
-// Puts the four bytes of `s` from `i` on to their places behind `at`. They are read before any is written: so the
-// compiler makes one load and one store of them.
-// internal: for `run`, which has seen that there are so many.
-fn four(out: &mut [u8], at: usize, s: &[u8], i: usize)
-    requires { (i + 4 ≤ length s.now) × (at + length s.now ≤ length out.old) }
-    ensures { out.new ≡ put_at out.old (at + i) (take 4 (drop i s.now)) }
+// A block from the start and one up to the end, which reach each other: no loop.
+// internal: for `run` and `few`, which have seen that there are so many.
+fn ends<const N: usize>(out: &mut [u8], at: usize, s: &[u8])
+    requires { (N ≤ length s.now) × (length s.now ≤ N + N) × (at + length s.now ≤ length out.old) }
+    ensures { out.new ≡ put_at out.old at s.now }
 {
-    let b4 = [s[i], s[i + 1], s[i + 2], s[i + 3]];
-    put::bytes(out, at + i, &b4);
+    block::<N>(out, at, s, 0);
+    block::<N>(out, at, s, s.len() - N);
 }
 
-// Eight, as `four`.
-// internal: as `four`.
-fn eight(out: &mut [u8], at: usize, s: &[u8], i: usize)
-    requires { (i + 8 ≤ length s.now) × (at + length s.now ≤ length out.old) }
-    ensures { out.new ≡ put_at out.old (at + i) (take 8 (drop i s.now)) }
+// Puts the N bytes of `s` from `i` on to their places behind `at`. They are read before any is written, and N is known where it
+// is called: so the compiler makes one load and one store of them, or a few.
+// internal: for the functions above, which have seen that there are so many.
+fn block<const N: usize>(out: &mut [u8], at: usize, s: &[u8], i: usize)
+    requires { (i + N ≤ length s.now) × (at + length s.now ≤ length out.old) }
+    ensures { out.new ≡ put_at out.old (at + i) (take N (drop i s.now)) }
 {
-    let b8 = [
-        s[i],
-        s[i + 1],
-        s[i + 2],
-        s[i + 3],
-        s[i + 4],
-        s[i + 5],
-        s[i + 6],
-        s[i + 7],
-    ];
-    put::bytes(out, at + i, &b8);
-}
-
-// Sixteen, as `four`.
-// internal: for `run`, `many` and `most`, which have seen that there are so many.
-fn sixteen(out: &mut [u8], at: usize, s: &[u8], i: usize)
-    requires { (i + 16 ≤ length s.now) × (at + length s.now ≤ length out.old) }
-    ensures { out.new ≡ put_at out.old (at + i) (take 16 (drop i s.now)) }
-{
-    let b16 = [
-        s[i],
-        s[i + 1],
-        s[i + 2],
-        s[i + 3],
-        s[i + 4],
-        s[i + 5],
-        s[i + 6],
-        s[i + 7],
-        s[i + 8],
-        s[i + 9],
-        s[i + 10],
-        s[i + 11],
-        s[i + 12],
-        s[i + 13],
-        s[i + 14],
-        s[i + 15],
-    ];
-    put::bytes(out, at + i, &b16);
+    let bytes = *s[i..].first_chunk::<N>().unwrap();
+    put::bytes(out, at + i, &bytes);
 }

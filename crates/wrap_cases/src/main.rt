@@ -1,66 +1,62 @@
 // Steps configuration C of document 01 more than 65,536 times by one packet or fault, and prints how many of the answers were
-// the expected one, counted plainly, and beside it the seven counters.
+// the expected one, counted plainly, and beside it the seven counters. What can't be written is lost.
 #![tactic(auto)]
 
 use image_load::types::Loaded;
 use state::types::{Config, Counts, Run};
+use std::fmt::Write;
 use step_rules::types::Stepped;
+use text::Page;
+use worked::{C, PAD};
 
-const C: [u8; 42] = [
-    0x06, 0x00, 0x01, 0x00, 0x01, 0x00, 0x02, 0x00, 0x64, 0x00, 0x03, 0x00, 0x02, 0x00, 0x0A, 0x00,
-    0x01, 0x03, 0x00, 0x02, 0x00, 0x14, 0x00, 0x02, 0x02, 0x00, 0x03, 0x00, 0x14, 0x00, 0x08, 0x00,
-    0x04, 0x00, 0x07, 0x00, 0x0A, 0x00, 0x01, 0x01, 0x01, 0xAA,
-];
+// What is stepped by, again and again.
+#[derive(Clone, Copy)]
+enum Event {
+    Packet(&'static [u8]),
+    Fault(u16),
+}
 
-const PAD: [u8; 12] = [
-    0x18, 0x01, 0xC0, 0x00, 0x00, 0x05, 0x01, 0xD2, 0x00, 0x0A, 0x05, 0x00,
+// What a line begins with, the event, the answer that is expected, how often.
+const CASES: [(&str, Event, u8, u64); 6] = [
+    ("PAD, answered 10", Event::Packet(&PAD), 10, 65535),
+    ("PAD, answered 10", Event::Packet(&PAD), 10, 65536),
+    ("PAD, answered 10", Event::Packet(&PAD), 10, 65540),
+    ("no byte, answered 22", Event::Packet(&[]), 22, 65537),
+    ("fault 9, answered 34", Event::Fault(9), 34, 131075),
+    ("fault 7, answered 13", Event::Fault(7), 13, 65540),
 ];
 
 fn main() {
-    let loaded = image_load::load::load(&C);
-    again(b"PAD, answered 10: ", loaded, &PAD, 0, 10, 65535);
-    again(b"PAD, answered 10: ", loaded, &PAD, 0, 10, 65536);
-    again(b"PAD, answered 10: ", loaded, &PAD, 0, 10, 65540);
-    again(b"no byte, answered 22: ", loaded, &[], 0, 22, 65537);
-    again(b"fault 9, answered 34: ", loaded, &[], 9, 34, 131075);
-    again(b"fault 7, answered 13: ", loaded, &[], 7, 13, 65540);
+    let Loaded { config, run, .. } = image_load::load::load(&C);
+    for (name, event, expected, turns) in CASES {
+        let (plain, c) = again(config, run, event, expected, turns);
+        let mut page = Page::<256>::new();
+        let _ = writeln!(
+            page,
+            "{name}: {plain} counts {} {} {} {} {} {} {}",
+            c.a, c.r, c.d, c.p, c.u, c.i, c.f
+        );
+        io::write_all(1, page.bytes());
+    }
 }
 
-// The name, the plain count, and A, R, D, P, U, I, F.
-fn show(name: &[u8], plain: u64, c: Counts) {
-    let mut out = [0u8; 128];
-    let n = text::put(&mut out, 0, name);
-    let n = text::put_number(&mut out, n, plain, b' ');
-    let n = text::put(&mut out, n, b"counts ");
-    let n = text::put_number(&mut out, n, c.a as u64, b' ');
-    let n = text::put_number(&mut out, n, c.r as u64, b' ');
-    let n = text::put_number(&mut out, n, c.d as u64, b' ');
-    let n = text::put_number(&mut out, n, c.p as u64, b' ');
-    let n = text::put_number(&mut out, n, c.u as u64, b' ');
-    let n = text::put_number(&mut out, n, c.i as u64, b' ');
-    let n = text::put_number(&mut out, n, c.f as u64, b'\n');
-    io::write_all(1, text::first(&out, n));
-}
-
-// One step: of the fault number, or of the packet where that is 0.
-fn one(config: Config, run: Run, packet: &[u8], fault: u16) -> Stepped {
+// One step.
+fn step(config: Config, run: Run, event: Event) -> Stepped {
     let mut room = [0u8; 260];
-    if fault != 0 {
-        return step_any_fault::step_fault(config, run, fault, &mut room);
+    match event {
+        Event::Packet(packet) => step_any_packet::step_packet(config, run, packet, &mut room),
+        Event::Fault(fault) => step_any_fault::step_fault(config, run, fault, &mut room),
     }
-    step_any_packet::step_packet(config, run, packet, &mut room)
 }
 
-// The same step again and again.
-fn again(name: &[u8], l: Loaded, packet: &[u8], fault: u16, expected: u8, turns: u64) {
-    let mut run = l.run;
-    let mut plain: u64 = 0;
-    let mut n: u64 = 0;
-    while n < turns {
-        let s = one(l.config, run, packet, fault);
+// The same step again and again: how many of the answers were the expected one, and the counters behind the last.
+fn again(config: Config, first: Run, event: Event, expected: u8, turns: u64) -> (u64, Counts) {
+    let mut run = first;
+    let mut plain = 0;
+    for _turn in 0..turns {
+        let s = step(config, run, event);
         run = s.run;
-        plain += (s.answer.answer == expected) as u64;
-        n += 1;
+        plain += u64::from(s.answer.answer == expected);
     }
-    show(name, plain, run.standing.counts);
+    (plain, run.standing.counts)
 }

@@ -1,35 +1,45 @@
 -- `take_route`: its refusal, or a route more.
-use Rattle.std.proofs.Common.{◌≡◌, ◌<◌, ℕ, List, length, take, refl, arith}
-use Rattle.state.specs.declared.types.Numbers.{Numbers}
+use Rattle.std.proofs.Common.{◌≡◌, ◌<◌, rules, ℕ, List, length, take, refl, arith}
+use Rattle.state.specs.declared.types.Config.{Config}
 use Rattle.state.specs.Tables.{Tables}
 use Rattle.image_rules.specs.Checks.{refusal_after}
-use Rattle.image_take.specs.Stored.{with_routes}
-use Rattle.image_take.specs.Held.{three, held_2}
+use Rattle.image_rules.specs.Refusals.{number_of, told}
+use Rattle.image_rules.proofs.RefusalLaws.{not_zero}
+use Rattle.image_take.specs.Stored.{Countable}
+use Rattle.image_take.specs.Held.{three, countable, held_2}
 use Rattle.image_take.specs.Taking.{Ready, told_2, good_whole, refuses_it, stores_it}
 use Rattle.image_take.proofs.take_route.Goals as goal
 
--- past the check the body has its size, and there is room
-is_three : {last : ℕ} {numbers : Numbers} {routeids dests : List ℕ} {n : ℕ} (b : List ℕ)
-    → Ready last (λ c. with_routes c numbers routeids dests) (λ s. s)
-    → ((t : Tables) → numbers.settings.base ≡ t.settings.base → n ≡ refusal_after last (take numbers.nroutes routeids) t 2 b)
-    → n ≡ 0 → (length b ≡ 3) × (numbers.nroutes < 128)
-is_three b p e z = three p.held (good_whole (told_2 p.held p.last_is _ e) z 0) refl
+-- past the check the body has its size, there is room, and the route can be counted
+past : {last : ℕ} {config : Config} (b : List ℕ) → Ready last (λ c. config) (λ s. s)
+    → ((t : Tables) → config.numbers.settings.base ≡ t.settings.base → 0 ≡ refusal_after last (take config.numbers.nroutes config.routeids) t 2 b)
+    → (length b ≡ 3) × (config.numbers.nroutes < 128) × Countable b 2 config.numbers
+past b p e =
+    let g = good_whole (told_2 p.held p.last_is b e) refl 0 in
+    let t = three p.held g refl in
+    (t.0, t.1, countable p.held g)
 
-pub returns-then-refused-ne0 : goal.returns-then-refused-ne0
-returns-then-refused-ne0 c C states rs h l = refuses_it (told_2 h l _ c.route_refusal-refused.ensures) c.if-refused-ne0.true
+pub returns-in_err-route_refusal : goal.returns-in_err-route_refusal
+returns-in_err-route_refusal c states rs h l =
+    let s : told c.from_residual.result ≡ number_of c.in_err-route_refusal.field-0.0 = search rules in
+    rw s (refuses_it (told_2 h l _ c.in_err-route_refusal.ensures) (not_zero _))
 
 pub word_at-requires : goal.word_at-requires
-word_at-requires c = omega (arith, is_three c.args.body.now c.requires c.route_refusal-refused.ensures c.if-refused-ne0.false)
+word_at-requires c = omega (arith, (past c.args.body.now c.requires c.in_ok-route_refusal.ensures).0)
 
-pub bounds-routeids-n : goal.bounds-routeids-n
-bounds-routeids-n c = omega (arith, is_three c.args.body.now c.requires c.route_refusal-refused.ensures c.if-refused-ne0.false)
+pub bounds-config-n : goal.bounds-config-n
+bounds-config-n c = (past c.args.body.now c.requires c.in_ok-route_refusal.ensures).1
 
 pub bounds-body-2 : goal.bounds-body-2
-bounds-body-2 c = omega (arith, is_three c.args.body.now c.requires c.route_refusal-refused.ensures c.if-refused-ne0.false)
+bounds-body-2 c = omega (arith, (past c.args.body.now c.requires c.in_ok-route_refusal.ensures).0)
 
-pub bounds-dests-n : goal.bounds-dests-n
-bounds-dests-n c = omega (arith, is_three c.args.body.now c.requires c.route_refusal-refused.ensures c.if-refused-ne0.false)
+pub bounds-config-n-2 : goal.bounds-config-n-2
+bounds-config-n-2 c = (past c.args.body.now c.requires c.in_ok-route_refusal.ensures).1
+
+pub numbers_behind-requires : goal.numbers_behind-requires
+numbers_behind-requires c = (past c.args.body.now c.requires c.in_ok-route_refusal.ensures).2
 
 pub returns : goal.returns
-returns c C states rs h l =
-    stores_it (told_2 h l _ c.route_refusal-refused.ensures) c.if-refused-ne0.false (λ place g. held_2 h g refl c.word_at.ensures)
+returns c states rs h l =
+    rw c.numbers_behind.ensures
+    (stores_it (told_2 h l _ c.in_ok-route_refusal.ensures) refl (λ place g. held_2 h g refl c.word_at.ensures))

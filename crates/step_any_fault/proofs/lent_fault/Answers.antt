@@ -1,5 +1,6 @@
 -- `lent_fault`: a state that breaks its rules, too little room, or the inner step.
 use Rattle.std.proofs.Common.{sym, ◌∙◌}
+use Rattle.state.specs.Tables.{config_of_lent}
 use Rattle.state.proofs.KeepsLaws.{keeps}
 use Rattle.step_rules.proofs.MovedOn.{lend_rows}
 use Rattle.step_rules.proofs.LentSteps.{fault_breaks, fault_cramped, fault_leaves}
@@ -21,5 +22,5 @@ inner_fault-answer-requires c =
 pub returns : goal.returns
 returns c =
     rw c.left_of.ensures
-    (fault_leaves (sym c.lent_keeps.ensures.0 ∙ c.if-not-lent_keeps.false) c.if-out-lt-STEP_ROOM.false (c.inner_fault-answer.ensures _)
+    (fault_leaves (sym c.lent_keeps.ensures.0 ∙ c.if-not-lent_keeps.false) c.if-out-lt-STEP_ROOM.false (c.inner_fault-answer.ensures (config_of_lent c.args.config.now))
     c.after_fault-counted.ensures c.with_counts.ensures)

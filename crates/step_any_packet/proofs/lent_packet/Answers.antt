@@ -1,5 +1,6 @@
 -- `lent_packet`: a state that breaks its rules, too little room, or the inner step.
 use Rattle.std.proofs.Common.{sym, ◌∙◌}
+use Rattle.state.specs.Tables.{config_of_lent}
 use Rattle.state.proofs.KeepsLaws.{keeps}
 use Rattle.step_rules.proofs.Found.{lend}
 use Rattle.step_rules.proofs.MovedOn.{lend_states}
@@ -23,5 +24,5 @@ inner_packet-m-requires c =
 pub returns : goal.returns
 returns c =
     rw c.left_of.ensures
-    (packet_leaves (sym c.lent_keeps.ensures.0 ∙ c.if-not-lent_keeps.false) c.if-out-lt-STEP_ROOM.false (c.inner_packet-m.ensures _ _ _ _)
+    (packet_leaves (sym c.lent_keeps.ensures.0 ∙ c.if-not-lent_keeps.false) c.if-out-lt-STEP_ROOM.false (c.inner_packet-m.ensures (config_of_lent c.args.config.now))
     c.after_packet-counted.ensures c.with_counts.ensures c.with_arm-left.ensures)

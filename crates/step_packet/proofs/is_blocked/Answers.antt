@@ -3,8 +3,8 @@ use Rattle.std.proofs.Common.{refl, ◌∙◌}
 use Rattle.step_answers.proofs.AnswerLaws.{armed_free, unarmed_blocked}
 use Rattle.step_packet.proofs.is_blocked.Goals as goal
 
-pub returns-then-armed : goal.returns-then-armed
-returns-then-armed c = rw c.if-armed.true (armed_free _ _)
+pub returns-then-not-armed : goal.returns-then-not-armed
+returns-then-not-armed c = rw c.if-not-armed.true (c.holds.ensures 6 refl ∙ unarmed_blocked _ _)
 
-pub returns : goal.returns
-returns c = rw c.if-armed.false (c.holds.ensures 6 refl ∙ unarmed_blocked _ _)
+pub returns-else-not-armed : goal.returns-else-not-armed
+returns-else-not-armed c = rw c.if-not-armed.false (armed_free _ _)

@@ -1,7 +1,8 @@
 -- `own_step`: each own command, by its law.
-use Rattle.std.proofs.Common.{refl, sym, ◌∙◌}
+use Rattle.std.proofs.Common.{◌≡◌, ◌⊎◌, inl, inr, take, refl, sym, ◌∙◌}
 use Rattle.step_effects.specs.FaultStates.{enable, disable, clear}
 use Rattle.step_answers.specs.declared.own.Own.TheVariants.{Arm, ResetCounters, NoOp, NoOpWithArgument, Enable, Disable, Clear, ClearAll}
+use Rattle.step_rules.specs.Moved.{OwnMoves}
 use Rattle.step_rules.proofs.MovedLaws.{own_moves_31, own_moves_off, own_moves_on}
 use Rattle.step_packet.proofs.own_step.Goals as goal
 
@@ -18,12 +19,12 @@ returns-in-ResetCounters c =
     rw c.quiet-in-ResetCounters.ensures (own_moves_off _ _ _ _ (c.if-args-wanted.false ∙ c.requires.2) ResetCounters c.in-ResetCounters.is refl)
 
 pub returns-in-NoOp : goal.returns-in-NoOp
-returns-in-NoOp c =
-    rw c.quiet-in-NoOp.ensures (own_moves_off _ _ _ _ (c.if-args-wanted.false ∙ c.requires.2) NoOp c.in-NoOp.is refl)
-
-pub returns-in-NoOpWithArgument : goal.returns-in-NoOpWithArgument
-returns-in-NoOpWithArgument c =
-    rw c.quiet-in-NoOpWithArgument.ensures (own_moves_off _ _ _ _ (c.if-args-wanted.false ∙ c.requires.2) NoOpWithArgument c.in-NoOpWithArgument.is refl)
+returns-in-NoOp c = go c.in-NoOp.is
+  where
+    go : (c.args.command ≡ NoOp) ⊎ (c.args.command ≡ NoOpWithArgument)
+        → OwnMoves (take c.args.config.now.numbers.nrows c.args.config.now.faultids.now) c.args.command c.args.id c.args.args.now c.args.states.now c.quiet-in-NoOp.result c.args.states.now
+    go (inl is) = rw c.quiet-in-NoOp.ensures (own_moves_off _ _ _ _ (c.if-args-wanted.false ∙ c.requires.2) NoOp is refl)
+    go (inr is) = rw c.quiet-in-NoOp.ensures (own_moves_off _ _ _ _ (c.if-args-wanted.false ∙ c.requires.2) NoOpWithArgument is refl)
 
 -- what acts on a row
 pub returns-in-Enable : goal.returns-in-Enable

@@ -6,4 +6,4 @@ pub returns-then-standing-gt1 : goal.returns-then-standing-gt1
 returns-then-standing-gt1 c = rw c.step_refused.ensures (fault_untold c.if-standing-gt1.true)
 
 pub returns : goal.returns
-returns c = rw c.step_out.ensures (fault_told c.if-standing-gt1.false (rw c.standing_in.ensures at c.lent_fault.ensures))
+returns c = rw c.into-2.ensures (fault_told c.if-standing-gt1.false (rw (c.lent-config.ensures, c.into.ensures) at c.lent_fault.ensures))

@@ -1,34 +1,58 @@
 -- `read_records`: the loop's invariant is `Walked`, and each way out is one of its laws.
-use Rattle.std.proofs.Common.{refl, arith}
+use Rattle.std.proofs.Common.{◌≡◌, ℕ, List, rules, refl, arith, length, Result, Ok, Err, Some, MatchResult, true}
+use Rattle.std.specs.Result.{is_ok}
+use Rattle.state.specs.declared.types.Config.{Config}
+use Rattle.image_rules.specs.declared.refusal.BadImage.{BadImage}
+use Rattle.image_rules.specs.declared.refusal.BadImage.TheVariants.{CutShort}
+use Rattle.image_rules.specs.RecordLaws.{Whole}
+use Rattle.image_rules.specs.Refusals.{number_of, told}
+use Rattle.image_rules.proofs.RefusalLaws.{not_zero}
+use Rattle.image_load.specs.declared.load.Stopped.{Stopped}
+use Rattle.image_load.specs.Image.{refused, load_of}
 use Rattle.image_load.specs.Loading.{nothing}
+use Rattle.image_load.specs.LoadWalk.{Reads}
 use Rattle.image_load.proofs.Loading.{only}
-use Rattle.image_load.proofs.LoadWalk.{stops_at, start, cuts, refuses, counts, goes_on}
+use Rattle.image_load.proofs.LoadWalk.{stops_at, start, cuts, refuses, goes_on}
 use Rattle.image_load.proofs.load.read_records.Goals as goal
 
-pub returns-then-image-eq0 : goal.returns-then-image-eq0
-returns-then-image-eq0 c = rw c.stopped.ensures (stops_at (λ z. omega arith) (only (nothing c.if-image-eq0.true refl)))
+pub returns-then-is_empty : goal.returns-then-is_empty
+returns-then-is_empty c =
+    let z : length c.args.image.now ≡ 0 = search rules in
+    rw c.by.ensures (stops_at (λ z. omega arith) (only (nothing z refl)))
 
 pub loop-at-init : goal.loop-at-init
-loop-at-init c = start c.if-image-eq0.false (rw (c.no_rows-numbers.ensures, c.first_settings.ensures) c.requires)
+loop-at-init c =
+    let h : length c.args.image.now ≡ 0 → ⊥ = search rules in
+    start h c.requires
 
-pub returns-then-found-eq0 : goal.returns-then-found-eq0
-returns-then-found-eq0 c =
-    rw c.stopped-then-found-eq0.ensures
-    (stops_at (λ z. omega arith) (cuts c.loop-at.invariant c.loop-at-test.true (c.found_at-found.ensures.is_cut c.if-found-eq0.true)))
+pub returns-in_err-found : goal.returns-in_err-found
+returns-in_err-found c =
+    let s : c.from_residual.result ≡ Err record { refusal = CutShort; offset = c.loop-at.at } = search rules in
+    rw s
+    (stops_at (λ z. omega arith)
+    (cuts c.loop-at.invariant c.loop-at-test.true (rw c.in_err-found.ensures.ok_part at c.found_at.ensures)))
 
-pub returns-then-refused-ne0 : goal.returns-then-refused-ne0
-returns-then-refused-ne0 c =
-    let whole = c.found_at-found.ensures.is_whole c.if-found-eq0.false in
-    rw c.stopped-then-refused-ne0.ensures
-    (stops_at c.if-refused-ne0.true (refuses c.loop-at.invariant c.loop-at-test.true whole c.take_record-refused.ensures c.if-refused-ne0.true))
+-- a record was refused at a place
+module _ (bs : List ℕ) (config : Config) (states : List ℕ) (place : ℕ) (q : Result (Unit {0}) Stopped) where
+  at_place : (r : Result (Unit {0}) BadImage)
+      → MatchResult r (λ done. ⊥) (λ e. q ≡ Err record { refusal = e; offset = place }) → ((told r ≡ 0 → ⊥) → refused (told r) place ≡ load_of bs)
+      → MatchResult q (λ done. Reads bs 0 0 config states) (λ stopped. Reads bs (number_of stopped.refusal) stopped.offset config states)
+  at_place (Ok done) m f = absurd m
+  at_place (Err e) m f = rw m (stops_at (not_zero e) (f (not_zero e)))
 
-pub numbers_behind-numbers-requires : goal.numbers_behind-numbers-requires
-numbers_behind-numbers-requires c =
-    let whole = c.found_at-found.ensures.is_whole c.if-found-eq0.false in
-    counts c.loop-at.invariant c.loop-at-test.true whole c.take_record-refused.ensures c.if-refused-ne0.false
+taken : (r : Result (Unit {0}) BadImage) → true ≡ is_ok r → told r ≡ 0
+taken (Ok done) e = refl
+taken (Err f) e = cc
+
+pub returns-in_err-map_err : goal.returns-in_err-map_err
+returns-in_err-map_err c =
+    let found : c.found_at.result ≡ Some c.in_ok-found.found = search rules in
+    let whole : Whole c.args.image.now c.loop-at.at c.in_ok-found.found.kind c.in_ok-found.found.end = rw found at c.found_at.ensures in
+    let s : MatchResult c.take_record.result (λ done. ⊥) (λ e. c.from_residual-in_err-map_err.result ≡ Err record { refusal = e; offset = c.loop-at.at }) = search rules in
+    at_place _ _ _ _ _ c.take_record.result s (refuses c.loop-at.invariant c.loop-at-test.true whole c.take_record.ensures)
 
 pub loop-at-preserved : goal.loop-at-preserved
 loop-at-preserved c =
-    let whole = c.found_at-found.ensures.is_whole c.if-found-eq0.false in
-    rw c.numbers_behind-numbers.ensures
-    (goes_on c.loop-at.invariant c.loop-at-test.true whole c.take_record-refused.ensures c.if-refused-ne0.false)
+    let found : c.found_at.result ≡ Some c.in_ok-found.found = search rules in
+    let whole : Whole c.args.image.now c.loop-at.at c.in_ok-found.found.kind c.in_ok-found.found.end = rw found at c.found_at.ensures in
+    goes_on c.loop-at.invariant c.loop-at-test.true whole c.take_record.ensures (taken _ c.in_ok-map_err.ensures.variant)

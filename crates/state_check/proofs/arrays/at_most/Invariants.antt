@@ -1,11 +1,8 @@
--- `at_most`: what was gathered says whether all that was passed is at most this.
-use Rattle.std.proofs.Common.{◌-◌, take, drop}
+-- `at_most`: what was gathered says whether each that was passed is at most this.
+use Rattle.std.proofs.Common.{drop}
 use Rattle.state_check.specs.Each.{each, within}
 use Rattle.state_check.specs.Walks.{Gathered}
 use Rattle.state_check.proofs.arrays.at_most.Given as goal
 
-abbrev pub invariant-loop-k : goal.invariant-loop-k
-invariant-loop-k l = let p = within l.most in Gathered (each p (take l.n l.xs)) (each p (drop l.k (take l.n l.xs))) l.ok
-
-abbrev pub decreases-loop-k : goal.decreases-loop-k
-decreases-loop-k l = l.n - l.k
+abbrev pub invariant-loop-x : goal.invariant-loop-x
+invariant-loop-x l = let p = within l.most in Gathered (each p l.xs) (each p (drop l.x-index l.xs)) l.ok

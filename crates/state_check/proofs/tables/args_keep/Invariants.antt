@@ -1,10 +1,6 @@
 -- `args_keep`: the rows that were passed have few arguments, and zeros behind them.
-use Rattle.std.proofs.Common.{◌-◌}
 use Rattle.state_check.specs.Walks.{ArgsWalked}
 use Rattle.state_check.proofs.tables.args_keep.Given as goal
 
 abbrev pub invariant-loop-k : goal.invariant-loop-k
 invariant-loop-k l = ArgsWalked l.counts l.n l.args l.k
-
-abbrev pub decreases-loop-k : goal.decreases-loop-k
-decreases-loop-k l = l.n - l.k

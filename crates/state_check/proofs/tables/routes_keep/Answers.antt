@@ -5,5 +5,5 @@ use Rattle.state_check.proofs.tables.routes_keep.Goals as goal
 
 pub returns : goal.returns
 returns c =
-    rw (c.both-2.ensures, c.both.ensures, c.none_own.ensures, c.dests_ok.ensures, c.rising.ensures)
+    rw (c.none_own.ensures, c.dests_ok.ensures, c.rising.ensures)
     (sym (routes_apart c.args.base c.args.ids.now c.args.dests.now c.args.n (omega arith)))

@@ -1,11 +1,8 @@
 -- after k turns the buffer is the copy of the first k zeros
-use Rattle.std.proofs.Common.{length, ◌-◌, ◌≡◌, ◌≤◌}
+use Rattle.std.proofs.Common.{◌≡◌}
 use lib.Seq.{paste}
 use Rattle.wire.specs.Put.{zero_bytes}
 use Rattle.wire.proofs.put.zeros.Given as goal
 
 abbrev pub invariant-loop-k : goal.invariant-loop-k
-invariant-loop-k l = (l.k ≤ l.n) × (l.out ≡ paste l.fn.out l.at (zero_bytes l.n) l.k) × (length l.out ≡ length l.fn.out)
-
-abbrev pub decreases-loop-k : goal.decreases-loop-k
-decreases-loop-k l = l.n - l.k
+invariant-loop-k l = l.out ≡ paste l.fn.out l.at (zero_bytes l.n) l.k
