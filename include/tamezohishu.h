@@ -113,7 +113,7 @@ enum {
  */
 enum {
     TZ_STACK_ALONE = 64,    /* tz_abi 8, tz_judge 8, tz_arguments 16, tz_build 64 */
-    TZ_STACK_STEP = 1024,   /* tz_lent_packet 352, tz_lent_tick 272, tz_lent_fault 320, tz_lent_resume 576: so the steps too */
+    TZ_STACK_STEP = 1024,   /* tz_lent_packet 352, tz_lent_tick 280, tz_lent_fault 328, tz_lent_resume 576: so the steps too */
     TZ_STACK_LOAD = 8192    /* tz_load 2,664, tz_replay 4,088: they build the tables there */
 };
 

@@ -86,7 +86,7 @@ fn read_records(image: &[u8], config: &mut Config, states: &mut [u8; 32]) -> Res
 }
 
 // Loads an image: 0 and its state, or the refusal and the offset of the first bad record. The tables are built in what is handed
-// back, so that no second configuration stands on the stack.
+// back.
 pub fn load(image: &[u8]) -> Loaded
     ensures { result ≡ load_of image.now }
 {

@@ -3,7 +3,7 @@
 // `numbers_behind`.
 #![tactic(auto)]
 
-ghost use Rattle.std.specs.Prelude.{◌≡◌, ◌≤◌, List, ℕ};
+ghost use Rattle.std.specs.Prelude.{◌≡◌, ◌≤◌, List, ℕ, IfErr};
 ghost use Rattle.image_rules.specs.Kinds.{one, last_of_kinds, kind_of};
 ghost use Rattle.image_rules.specs.Refusals.{told};
 ghost use Rattle.image_take.specs.Stored.{numbers_behind, Countable};
@@ -30,7 +30,8 @@ pub fn numbers_behind(numbers: &mut Numbers, kind: u16, body: &[u8])
 // Kind 2: a route behind the others.
 fn take_route(last: u16, body: &[u8], config: &mut Config) -> Result<(), BadImage>
     requires { Ready last (λ c. config.old) (λ s. s) }
-    ensures { (states : List ℕ) → Takes last 2 body.now config.old states (told result) config.new states }
+    ensures takes { (states : List ℕ) → Takes last 2 body.now config.old states (told result) config.new states }
+    ensures refused { IfErr result (λ refusal. config.new ≡ config.old) }
 {
     image_check::route_refusal(last, body, config)?;
     let n = config.numbers.nroutes;
@@ -43,7 +44,8 @@ fn take_route(last: u16, body: &[u8], config: &mut Config) -> Result<(), BadImag
 // Kind 3: a protected id behind the others.
 fn take_protected(last: u16, body: &[u8], config: &mut Config) -> Result<(), BadImage>
     requires { Ready last (λ c. config.old) (λ s. s) }
-    ensures { (states : List ℕ) → Takes last 3 body.now config.old states (told result) config.new states }
+    ensures takes { (states : List ℕ) → Takes last 3 body.now config.old states (told result) config.new states }
+    ensures refused { IfErr result (λ refusal. config.new ≡ config.old) }
 {
     image_check::protected_refusal(last, body, config)?;
     let m = config.numbers.nprotected;
@@ -60,7 +62,8 @@ fn take_row(
     states: &mut [u8; 32],
 ) -> Result<(), BadImage>
     requires { Ready last (λ c. config.old) (λ s. states.old) }
-    ensures { Takes last 4 body.now config.old states.old (told result) config.new states.new }
+    ensures takes { Takes last 4 body.now config.old states.old (told result) config.new states.new }
+    ensures refused { IfErr result (λ refusal. (config.new ≡ config.old) × (states.new ≡ states.old)) }
 {
     image_check::fault_row_refusal(last, body, config)?;
     let k = config.numbers.nrows;
@@ -84,7 +87,8 @@ fn take_one(
 ) -> Result<(), BadImage>
     requires known { (1 ≤ kind) × (kind ≤ last_of_kinds) × (kind_of kind ≡ one size) }
     requires ready { Ready last (λ c. config.old) (λ s. s) }
-    ensures { (states : List ℕ) → Takes last kind body.now config.old states (told result) config.new states }
+    ensures takes { (states : List ℕ) → Takes last kind body.now config.old states (told result) config.new states }
+    ensures refused { IfErr result (λ refusal. config.new ≡ config.old) }
 {
     image_check::one_refusal(last, kind, size, body, config.numbers.settings)?;
     numbers_behind(&mut config.numbers, kind, body);
@@ -102,7 +106,8 @@ pub fn take_record(
     states: &mut [u8; 32],
 ) -> Result<(), BadImage>
     requires { Ready last (λ c. config.old) (λ s. states.old) }
-    ensures { Takes last kind body.now config.old states.old (told result) config.new states.new }
+    ensures takes { Takes last kind body.now config.old states.old (told result) config.new states.new }
+    ensures refused { IfErr result (λ refusal. (config.new ≡ config.old) × (states.new ≡ states.old)) }
 {
     match kind {
         2 => take_route(last, body, config),

@@ -25,8 +25,8 @@ fn stopped(at: Reached, stop: Stop) -> Reached
 
 // A recording behind a state that keeps its rules, event by event, until a record is bad or less than `EVENT_ROOM` bytes of the output
 // are left. Columns and fault states are lent; the standing goes by value and is worked out beside each step. Each arm asks for its
-// room and ends with its own turn of the cursors, so that the arms never join and the kind is asked about once: with the room asked
-// for before the arms a tick took 11 instructions more, and a packet 10.
+// room and ends with its own turn of the cursors, so that the arms never join: with the room asked for before the arms a tick took 11
+// instructions more, and a packet 10.
 // internal: for `lent_resume` and `replay`, which have judged the state.
 pub fn inner_replay(
     config: &LentConfig<'_>,

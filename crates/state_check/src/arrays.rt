@@ -1,28 +1,28 @@
 // The walks over arrays that the judge of a state asks: they gather a bool, its new part first, and the compiler makes vector
 // code of them, since no turn of a loop branches. So they are loops, and no `all`, which stops at the first that fails.
-ghost use Rattle.std.specs.Prelude.{◌≡◌, ◌≤◌};
+ghost use Rattle.std.specs.Prelude.{◌≡◌, ◌≤◌, drop};
 ghost use Rattle.state.specs.Test.{all_zero};
 ghost use Rattle.state_check.specs.Each.{each, rises, within, dest_ok, foreign};
 
-// All is zero. (Of words and of bytes by themselves: one function for both would need a bound that makes a number of an element,
-// and its contract would speak of that number.)
-pub(crate) fn zero_words(xs: &[u16]) -> bool
-    ensures { result ≡ all_zero xs.now }
+// All is zero from a place on. (Of words and of bytes by themselves: one function for both would need a bound that makes a number of
+// an element, and its contract would speak of that number.)
+pub(crate) fn zero_words(xs: &[u16], from: usize) -> bool
+    ensures { result ≡ all_zero (drop from xs.now) }
 {
     let mut ok = true;
-    for x in xs {
-        ok &= *x == 0;
+    for k in from..xs.len() {
+        ok &= xs[k] == 0;
     }
     ok
 }
 
 // The same of bytes.
-pub(crate) fn zero_bytes(xs: &[u8]) -> bool
-    ensures { result ≡ all_zero xs.now }
+pub(crate) fn zero_bytes(xs: &[u8], from: usize) -> bool
+    ensures { result ≡ all_zero (drop from xs.now) }
 {
     let mut ok = true;
-    for x in xs {
-        ok &= *x == 0;
+    for k in from..xs.len() {
+        ok &= xs[k] == 0;
     }
     ok
 }

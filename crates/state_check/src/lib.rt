@@ -35,9 +35,9 @@ fn routes_judged<'a>(
 {
     routes_keep(base, ids, dests, n)
         && protected_keep(base, ids, n, protected, m)
-        && zero_words(&ids[n..])
-        && zero_bytes(&dests[n..])
-        && zero_words(&protected[m..])
+        && zero_words(ids, n)
+        && zero_bytes(dests, n)
+        && zero_words(protected, m)
 }
 
 // The state that is lent keeps its rules; the lengths of its arrays are handed back.

@@ -7,19 +7,10 @@ ghost use Rattle.state.specs.Lookup.{Column};
 ghost use Rattle.state.specs.Test.{all_zero, args_zero, routes_kept, protected_kept, rows_kept, states_ok};
 ghost use Rattle.state_check.specs.TableParts.{argless};
 
-use crate::arrays::{at_most, dests_ok, none_own, rising, zero_bytes, zero_words};
+use crate::arrays::{at_most, dests_ok, none_own, rising, zero_bytes};
 use crate::values::state_ok;
 use state::rules;
 use state_lookup::holds;
-
-// The bytes from a place on are zero.
-// internal: for `args_keep`, which has seen that the place is there.
-fn zero_from(bytes: &[u8], from: usize) -> bool
-    requires { from ≤ length bytes.now }
-    ensures { result ≡ all_zero (drop from bytes.now) }
-{
-    zero_bytes(&bytes[from..])
-}
 
 // At most 16 arguments in each of n rows, and zero behind them and behind the last row.
 // internal: for the judge of a state, which has seen that the counts are within their limits.
@@ -32,34 +23,43 @@ pub(crate) fn args_keep<'a>(counts: &'a [u8], n: usize, args: &'a [u8]) -> bool
         if count > 16 {
             return false;
         }
-        if !zero_from(&args[16 * k..16 * k + 16], count as usize) {
+        if !zero_bytes(&args[16 * k..16 * k + 16], count as usize) {
             return false;
         }
     }
-    zero_from(args, 16 * n)
+    zero_bytes(args, 16 * n)
 }
 
-// Fault ids and responses behind n rows are zero.
-// internal: for the judge of a state, which has seen that the counts are within their limits.
+// Fault ids and responses behind n rows are zero. The two columns are passed over side by side: a walk for each begins and ends by
+// itself, which costs a small table more than the walk.
+// internal: for the judge of a state, whose fault rows stand in arrays of 32.
 pub(crate) fn words_unused<'a>(faultids: &'a [u16], responses: &'a [u16], n: usize) -> bool
-    requires { (n ≤ length faultids.now) × (n ≤ length responses.now) }
+    requires { (length faultids.now ≡ 32) × (length responses.now ≡ 32) }
     ensures { result ≡ (all_zero (drop n faultids.now) && all_zero (drop n responses.now)) }
 {
-    zero_words(&faultids[n..]) && zero_words(&responses[n..])
+    let mut ok = true;
+    for k in n..32 {
+        ok &= (faultids[k] == 0) & (responses[k] == 0);
+    }
+    ok
 }
 
-// So are the bytes of such rows, their states among them.
-// internal: for the judge of a state, which has seen that the counts are within their limits.
+// So are the bytes of such rows, their states among them, side by side too.
+// internal: for the judge of a state, whose fault rows stand in arrays of 32.
 pub(crate) fn bytes_unused<'a>(
     latching: &'a [u8],
     argcounts: &'a [u8],
     states: &'a [u8],
     n: usize,
 ) -> bool
-    requires { (n ≤ length latching.now) × (n ≤ length argcounts.now) × (n ≤ length states.now) }
+    requires { (length latching.now ≡ 32) × (length argcounts.now ≡ 32) × (length states.now ≡ 32) }
     ensures { result ≡ (all_zero (drop n latching.now) && (all_zero (drop n argcounts.now) && all_zero (drop n states.now))) }
 {
-    zero_bytes(&latching[n..]) && zero_bytes(&argcounts[n..]) && zero_bytes(&states[n..])
+    let mut ok = true;
+    for k in n..32 {
+        ok &= (latching[k] == 0) & ((argcounts[k] == 0) & (states[k] == 0));
+    }
+    ok
 }
 
 // The routes rise and keep their rule.

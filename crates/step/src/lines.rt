@@ -1,4 +1,6 @@
 // The replies of a replay as text: a line for each, its four numbers. The bytes of a command behind them are passed over.
+ghost use Rattle.std.specs.Prelude.{◌∷◌, ◌++◌, Some, decimal};
+
 use replay_rules::recording::HEAD_SIZE;
 use std::fmt;
 use std::fmt::Write;
@@ -26,7 +28,10 @@ impl From<[u8; HEAD_SIZE]> for Reply {
     }
 }
 
+// The four numbers in decimal, a blank between: what a line of the program is, said of the very bytes that are printed.
 impl fmt::Display for Reply {
+    ghost output = { λ r. Some (decimal r.answer ++ 32 ∷ decimal r.id ++ 32 ∷ decimal r.dest ++ 32 ∷ decimal r.written) };
+
     fn fmt<W: fmt::Write>(&self, f: &mut fmt::Formatter<W>) -> fmt::Result {
         write!(
             f,

@@ -53,7 +53,7 @@ pub fn clear_all(states: &mut [u8; 32])
     requires { (length states.old ≡ 32) × ((k : ℕ) → slice_index states.old k ≤ 2) }
     ensures { states.new ≡ clear_all states.old }
 {
-    for s in states.iter_mut() {
-        *s = next(*s, Event::Clear);
+    for k in 0..32 {
+        states[k] = next(states[k], Event::Clear);
     }
 }

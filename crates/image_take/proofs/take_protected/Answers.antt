@@ -24,8 +24,8 @@ past b p e =
 pub protected_refusal-requires : goal.protected_refusal-requires
 protected_refusal-requires c = let h = c.requires.held in (route_column h, protected_slots h)
 
-pub returns-in_err-protected_refusal : goal.returns-in_err-protected_refusal
-returns-in_err-protected_refusal c states rs h l =
+pub returns-in_err-protected_refusal-clause-takes : goal.returns-in_err-protected_refusal-clause-takes
+returns-in_err-protected_refusal-clause-takes c states rs h l =
     let s : told c.from_residual.result ≡ number_of c.in_err-protected_refusal.field-0.0 = search rules in
     rw s (refuses_it (told_3 h l _ c.in_err-protected_refusal.ensures) (not_zero _))
 
@@ -38,7 +38,7 @@ bounds-config-m c = (past c.args.body.now c.requires c.in_ok-protected_refusal.e
 pub numbers_behind-requires : goal.numbers_behind-requires
 numbers_behind-requires c = (past c.args.body.now c.requires c.in_ok-protected_refusal.ensures).2
 
-pub returns : goal.returns
-returns c states rs h l =
+pub returns-clause-takes : goal.returns-clause-takes
+returns-clause-takes c states rs h l =
     rw c.numbers_behind.ensures
     (stores_it (told_3 h l _ c.in_ok-protected_refusal.ensures) refl (λ place g. held_3 h g refl c.word_at.ensures))

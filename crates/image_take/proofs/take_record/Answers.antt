@@ -3,14 +3,14 @@ use Rattle.std.proofs.Common.{arith}
 use Rattle.image_take.specs.Taking.{no_such_kind}
 use Rattle.image_take.proofs.take_record.Goals as goal
 
-pub returns-in-2 : goal.returns-in-2
-returns-in-2 c = rw c.in-2.is (c.take_route.ensures _)
+pub returns-in-2-clause-takes : goal.returns-in-2-clause-takes
+returns-in-2-clause-takes c = rw c.in-2.is (c.take_route.ensures.takes _)
 
-pub returns-in-3 : goal.returns-in-3
-returns-in-3 c = rw c.in-3.is (c.take_protected.ensures _)
+pub returns-in-3-clause-takes : goal.returns-in-3-clause-takes
+returns-in-3-clause-takes c = rw c.in-3.is (c.take_protected.ensures.takes _)
 
-pub returns-in-1 : goal.returns-in-1
-returns-in-1 c = rw c.in-1.is (c.take_one.ensures _)
+pub returns-in-1-clause-takes : goal.returns-in-1-clause-takes
+returns-in-1-clause-takes c = rw c.in-1.is (c.take_one.ensures.takes _)
 
-pub returns-in_default : goal.returns-in_default
-returns-in_default c = no_such_kind _ _ (λ known. omega arith)
+pub returns-in_default-clause-takes : goal.returns-in_default-clause-takes
+returns-in_default-clause-takes c = no_such_kind _ _ (λ known. omega arith)

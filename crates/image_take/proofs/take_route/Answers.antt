@@ -19,8 +19,8 @@ past b p e =
     let t = three p.held g refl in
     (t.0, t.1, countable p.held g)
 
-pub returns-in_err-route_refusal : goal.returns-in_err-route_refusal
-returns-in_err-route_refusal c states rs h l =
+pub returns-in_err-route_refusal-clause-takes : goal.returns-in_err-route_refusal-clause-takes
+returns-in_err-route_refusal-clause-takes c states rs h l =
     let s : told c.from_residual.result ≡ number_of c.in_err-route_refusal.field-0.0 = search rules in
     rw s (refuses_it (told_2 h l _ c.in_err-route_refusal.ensures) (not_zero _))
 
@@ -39,7 +39,7 @@ bounds-config-n-2 c = (past c.args.body.now c.requires c.in_ok-route_refusal.ens
 pub numbers_behind-requires : goal.numbers_behind-requires
 numbers_behind-requires c = (past c.args.body.now c.requires c.in_ok-route_refusal.ensures).2
 
-pub returns : goal.returns
-returns c states rs h l =
+pub returns-clause-takes : goal.returns-clause-takes
+returns-clause-takes c states rs h l =
     rw c.numbers_behind.ensures
     (stores_it (told_2 h l _ c.in_ok-route_refusal.ensures) refl (λ place g. held_2 h g refl c.word_at.ensures))

@@ -22,8 +22,8 @@ module _ {last : ℕ} {config : Config} {states : List ℕ} (b : List ℕ) (p : 
 pub fault_row_refusal-requires : goal.fault_row_refusal-requires
 fault_row_refusal-requires c = let h = c.requires.held in (route_column h, fault_slots h)
 
-pub returns-in_err-fault_row_refusal : goal.returns-in_err-fault_row_refusal
-returns-in_err-fault_row_refusal c rs h l =
+pub returns-in_err-fault_row_refusal-clause-takes : goal.returns-in_err-fault_row_refusal-clause-takes
+returns-in_err-fault_row_refusal-clause-takes c rs h l =
     let s : told c.from_residual.result ≡ number_of c.in_err-fault_row_refusal.field-0.0 = search rules in
     rw s (refuses_it (told_4 h l _ c.in_err-fault_row_refusal.ensures) (not_zero _))
 
@@ -72,8 +72,8 @@ run-requires c =
 pub numbers_behind-requires : goal.numbers_behind-requires
 numbers_behind-requires c = counts c.args.body.now c.requires c.in_ok-fault_row_refusal.ensures
 
-pub returns : goal.returns
-returns c rs h l =
+pub returns-clause-takes : goal.returns-clause-takes
+returns-clause-takes c rs h l =
     rw c.numbers_behind.ensures
     (stores_it (told_4 h l _ c.in_ok-fault_row_refusal.ensures) refl
     (λ place g. held_4 h g refl (c.word_at.ensures, c.word_at-2.ensures, c.run.ensures)))

@@ -49,10 +49,10 @@ returns-in_err-map_err c =
     let found : c.found_at.result ≡ Some c.in_ok-found.found = search rules in
     let whole : Whole c.args.image.now c.loop-at.at c.in_ok-found.found.kind c.in_ok-found.found.end = rw found at c.found_at.ensures in
     let s : MatchResult c.take_record.result (λ done. ⊥) (λ e. c.from_residual-in_err-map_err.result ≡ Err record { refusal = e; offset = c.loop-at.at }) = search rules in
-    at_place _ _ _ _ _ c.take_record.result s (refuses c.loop-at.invariant c.loop-at-test.true whole c.take_record.ensures)
+    at_place _ _ _ _ _ c.take_record.result s (refuses c.loop-at.invariant c.loop-at-test.true whole c.take_record.ensures.takes)
 
 pub loop-at-preserved : goal.loop-at-preserved
 loop-at-preserved c =
     let found : c.found_at.result ≡ Some c.in_ok-found.found = search rules in
     let whole : Whole c.args.image.now c.loop-at.at c.in_ok-found.found.kind c.in_ok-found.found.end = rw found at c.found_at.ensures in
-    goes_on c.loop-at.invariant c.loop-at-test.true whole c.take_record.ensures (taken _ c.in_ok-map_err.ensures.variant)
+    goes_on c.loop-at.invariant c.loop-at-test.true whole c.take_record.ensures.takes (taken _ c.in_ok-map_err.ensures.variant)

@@ -4,5 +4,5 @@ use Rattle.state.specs.Test.{all_zero}
 use Rattle.state_check.specs.Walks.{Gathered}
 use Rattle.state_check.proofs.arrays.zero_words.Given as goal
 
-abbrev pub invariant-loop-x : goal.invariant-loop-x
-invariant-loop-x l = Gathered (all_zero l.xs) (all_zero (drop l.x-index l.xs)) l.ok
+abbrev pub invariant-loop-k : goal.invariant-loop-k
+invariant-loop-k l = Gathered (all_zero (drop l.from l.xs)) (all_zero (drop l.k l.xs)) l.ok

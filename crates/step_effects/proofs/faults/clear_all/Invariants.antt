@@ -2,5 +2,5 @@
 use Rattle.step_effects.specs.FaultLaws.{Cleared}
 use Rattle.step_effects.proofs.faults.clear_all.Given as goal
 
-abbrev pub invariant-loop-s : goal.invariant-loop-s
-invariant-loop-s l = record { cleared : Cleared l.fn.states l.states l.s-index }
+abbrev pub invariant-loop-k : goal.invariant-loop-k
+invariant-loop-k l = record { cleared : Cleared l.fn.states l.states l.k }
