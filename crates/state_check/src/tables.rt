@@ -1,5 +1,5 @@
-// The tables of a state: rows that rise and keep their rule, argument bytes, fault states. Each column is passed over by a walk of
-// its own where its test is of its numbers alone, and the routes are searched for protected ids and responses. That counts are within
+// The tables of a state: rows that rise and keep their rule, argument bytes, fault states. Rows in use are passed over by a walk for
+// each column where its test is of its numbers alone, and the routes are searched for protected ids and responses. That counts are within
 // their limits and that routes rise is asked in each contract and is no invariant of a type: C lends any bytes, and this judges them.
 ghost use Rattle.std.specs.Prelude.{◌≡◌, ◌&&◌, true, [], ◌*◌, ◌≤◌, length, take, drop};
 ghost use Rattle.state.specs.Tables.{listed, route_at};

@@ -57,8 +57,11 @@ impl<const N: usize> Page<N> {
     }
 }
 
-// Formats put their text as `put` does, and go on where a part of it does not fit.
+// Formats put their text as `put` does, and go on where a part of it does not fit. What one call gives is stated for `write!`, which
+// promises it of the whole text where each part has an output.
 impl<const N: usize> fmt::Write for Page<N> {
+    ghost write_str_gives = { λ p s q. q ≡ appended N p s };
+
     fn write_str(&mut self, s: &str) -> fmt::Result
         ensures goes_on { IsOk result }
         ensures puts { self.new ≡ appended N self.old s.now }
