@@ -7,8 +7,10 @@ mod lines;
 mod session;
 
 use image_load::types::Loaded;
+use std::fmt::Write;
 use std::fs;
 use std::rt::Files;
+use text::Page;
 
 // The image is the first 65,536 bytes of path.cfg; a file that can't be opened counts as an empty image.
 fn load(rt: &impl Files) -> Loaded {
@@ -26,7 +28,9 @@ fn main(rt: HostRuntime) {
         config,
         run,
     } = load(&rt);
-    let _ = println!(rt; "{answer} {offset}");
+    let mut line = Page::<64>::new();
+    let _ = writeln!(line, "{answer} {offset}");
+    let _ = rt.write_all(line.bytes());
     if answer != 0 {
         let _ = println!(rt; "bad");
         return;
