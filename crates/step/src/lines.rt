@@ -28,7 +28,7 @@ impl From<[u8; HEAD_SIZE]> for Reply {
     }
 }
 
-// The four numbers in decimal, a blank between: what a line of the program is, said of the very bytes that are printed.
+// The four numbers in decimal, a blank between: which bytes a format of a reply gives.
 impl fmt::Display for Reply {
     ghost output = { λ r. Some (decimal r.answer ++ 32 ∷ decimal r.id ++ 32 ∷ decimal r.dest ++ 32 ∷ decimal r.written) };
 

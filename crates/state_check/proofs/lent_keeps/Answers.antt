@@ -34,17 +34,13 @@ pub returns-then-not-rows_keep : goal.returns-then-not-rows_keep
 returns-then-not-rows_keep c = refused (lent_sized c.args.config.now c.told-states) c.args.standing 4 c.rows_keep.ensures (ap not c.if-not-rows_keep.true)
 
 pub words_unused-requires : goal.words_unused-requires
-words_unused-requires c =
-    let n = counts_keeps (sym c.counts_ok.ensures ∙ c.if-not-counts_ok.false) in
-    omega (arith, (lent_sized c.args.config.now c.told-states).states_32)
+words_unused-requires c = omega (arith, (lent_sized c.args.config.now c.told-states).states_32)
 
 pub returns-then-not-words_unused : goal.returns-then-not-words_unused
 returns-then-not-words_unused c = refused (lent_sized c.args.config.now c.told-states) c.args.standing 5 c.words_unused.ensures (ap not c.if-not-words_unused.true)
 
 pub bytes_unused-requires : goal.bytes_unused-requires
-bytes_unused-requires c =
-    let n = counts_keeps (sym c.counts_ok.ensures ∙ c.if-not-counts_ok.false) in
-    omega (arith, (lent_sized c.args.config.now c.told-states).states_32)
+bytes_unused-requires c = omega (arith, (lent_sized c.args.config.now c.told-states).states_32)
 
 pub returns-then-not-bytes_unused : goal.returns-then-not-bytes_unused
 returns-then-not-bytes_unused c = refused (lent_sized c.args.config.now c.told-states) c.args.standing 6 c.bytes_unused.ensures (ap not c.if-not-bytes_unused.true)
